@@ -1,0 +1,5 @@
+pub mod Alphabet
+pub mod Count
+pub mod Hex
+pub mod Names
+pub mod Totals

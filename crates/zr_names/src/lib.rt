@@ -1,0 +1,25 @@
+//! The names of ZFS objects, units of work, their outcomes and the totals.
+#![tactic(auto)]
+
+pub use bytes::Bytes;
+pub use moment::Moment;
+pub use names::{JobName, MarkName, Path, Prefix, SnapName, Tag, TokenText};
+pub use outcome::{NoMemory, Outcome};
+pub use reading::{
+    NameFault, read_job, read_mark, read_path, read_prefix, read_snap, read_tag, read_token_text,
+};
+pub use rows::{Rows, same_items};
+pub use same::Same;
+pub use totals::Totals;
+pub use unit::{Guid, Unit, Work};
+
+pub mod bytes;
+pub mod hex;
+pub mod moment;
+pub mod names;
+pub mod outcome;
+pub mod reading;
+pub mod rows;
+pub mod same;
+pub mod totals;
+pub mod unit;
