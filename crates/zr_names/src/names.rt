@@ -37,7 +37,8 @@ impl Path {
     ghost use Rattle.std.specs.Prelude.{◌≡◌};
     ghost use Rattle.zr_names.specs.Names.{IsName, path_is_bad};
 
-    pub(crate) fn new(text: Bytes) -> Path
+    /// The name of these bytes; `reading` has the test.
+    pub fn new(text: Bytes) -> Path
         requires { IsName path_is_bad PATH_LIMIT text }
         ensures { result ≡ text }
     {
@@ -76,7 +77,8 @@ impl SnapName {
     ghost use Rattle.std.specs.Prelude.{◌≡◌};
     ghost use Rattle.zr_names.specs.Names.{IsName, name_is_bad};
 
-    pub(crate) fn new(text: Bytes) -> SnapName
+    /// The name of these bytes; `reading` has the test.
+    pub fn new(text: Bytes) -> SnapName
         requires { IsName name_is_bad NAME_LIMIT text }
         ensures { result ≡ text }
     {
@@ -115,7 +117,8 @@ impl MarkName {
     ghost use Rattle.std.specs.Prelude.{◌≡◌};
     ghost use Rattle.zr_names.specs.Names.{IsName, name_is_bad};
 
-    pub(crate) fn new(text: Bytes) -> MarkName
+    /// The name of these bytes; `reading` has the test.
+    pub fn new(text: Bytes) -> MarkName
         requires { IsName name_is_bad NAME_LIMIT text }
         ensures { result ≡ text }
     {
@@ -154,7 +157,8 @@ impl JobName {
     ghost use Rattle.std.specs.Prelude.{◌≡◌};
     ghost use Rattle.zr_names.specs.Names.{IsName, name_is_bad};
 
-    pub(crate) fn new(text: Bytes) -> JobName
+    /// The name of these bytes; `reading` has the test.
+    pub fn new(text: Bytes) -> JobName
         requires { IsName name_is_bad JOB_LIMIT text }
         ensures { result ≡ text }
     {
@@ -193,7 +197,8 @@ impl Prefix {
     ghost use Rattle.std.specs.Prelude.{◌≡◌};
     ghost use Rattle.zr_names.specs.Names.{IsName, name_is_bad};
 
-    pub(crate) fn new(text: Bytes) -> Prefix
+    /// The name of these bytes; `reading` has the test.
+    pub fn new(text: Bytes) -> Prefix
         requires { IsName name_is_bad JOB_LIMIT text }
         ensures { result ≡ text }
     {
@@ -232,7 +237,8 @@ impl Tag {
     ghost use Rattle.std.specs.Prelude.{◌≡◌};
     ghost use Rattle.zr_names.specs.Names.{IsName, tag_is_bad};
 
-    pub(crate) fn new(text: Bytes) -> Tag
+    /// The name of these bytes; `reading` has the test.
+    pub fn new(text: Bytes) -> Tag
         requires { IsName tag_is_bad NAME_LIMIT text }
         ensures { result ≡ text }
     {
@@ -271,7 +277,8 @@ impl TokenText {
     ghost use Rattle.std.specs.Prelude.{◌≡◌};
     ghost use Rattle.zr_names.specs.Names.{IsName, token_is_bad};
 
-    pub(crate) fn new(text: Bytes) -> TokenText
+    /// The name of these bytes; `reading` has the test.
+    pub fn new(text: Bytes) -> TokenText
         requires { IsName token_is_bad TOKEN_LIMIT text }
         ensures { result ≡ text }
     {

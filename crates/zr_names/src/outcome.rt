@@ -1,6 +1,20 @@
+use std::alloc::{AllocError, AllocFailed};
+
 /// Memory was refused.
 #[derive(Clone, Copy, Debug, PartialEq, Eq)]
 pub struct NoMemory;
+
+impl From<AllocError> for NoMemory {
+    fn from(_error: AllocError) -> NoMemory {
+        NoMemory
+    }
+}
+
+impl<T: Drop> From<AllocFailed<T>> for NoMemory {
+    fn from(_error: AllocFailed<T>) -> NoMemory {
+        NoMemory
+    }
+}
 
 /// How a unit of work ended. A number stays at `u32::MAX` once there.
 #[derive(Clone, Copy, Debug, PartialEq, Eq)]

@@ -1,0 +1,4 @@
+pub mod Answering
+pub mod Effect
+pub mod Pools
+pub mod Rows
