@@ -1,2 +1,4 @@
 pub mod Changes
 pub mod Tokens
+pub mod Kept
+pub mod Applied

@@ -1,0 +1,56 @@
+ghost use Rattle.std.specs.Prelude.{◌≡◌, ◌++◌, ◌∷◌, []};
+ghost use Rattle.zr_world.specs.Answering.{Answers, Fits, HasCause};
+ghost use Rattle.zr_world.specs.Pools.{IsWellFormed};
+
+use crate::command::{Answer, Cmd};
+use crate::effects::{ApplyFault, Extent, apply};
+use crate::pools::Pools;
+use std::alloc::Global;
+
+/// Answers a command as ZFS does on these pools, or fails it at a planned extent.
+pub fn act(
+    alloc: Global,
+    pools: &mut Pools,
+    faults: &mut u64,
+    cmd: &Cmd,
+    plan: Option<Extent>,
+) -> Answer
+    ensures cause { HasCause faults.old faults.new result }
+    ensures answer { Answers cmd.now pools.old pools.new result }
+    ensures well_formed { IsWellFormed pools.old → IsWellFormed pools.new }
+    ensures shape { IsWellFormed pools.old → Fits cmd.now result }
+{
+    match plan {
+        Some(extent) => fail(alloc, pools, faults, cmd, extent),
+        None => succeed(alloc, pools, faults, cmd),
+    }
+}
+
+/// The command comes as far as the extent says, and is answered as failed.
+fn fail(alloc: Global, pools: &mut Pools, faults: &mut u64, cmd: &Cmd, extent: Extent) -> Answer
+    ensures cause { HasCause faults.old faults.new result }
+    ensures answer { Answers cmd.now pools.old pools.new result }
+    ensures well_formed { IsWellFormed pools.old → IsWellFormed pools.new }
+    ensures failed { result ≡ Answer.Failed }
+{
+    let _ = apply(alloc, pools, cmd, extent);
+    *faults = faults.saturating_add(1);
+    Answer::Failed
+}
+
+/// The command comes whole, unless it is refused.
+fn succeed(alloc: Global, pools: &mut Pools, faults: &mut u64, cmd: &Cmd) -> Answer
+    ensures cause { HasCause faults.old faults.new result }
+    ensures answer { Answers cmd.now pools.old pools.new result }
+    ensures well_formed { IsWellFormed pools.old → IsWellFormed pools.new }
+    ensures shape { IsWellFormed pools.old → Fits cmd.now result }
+{
+    match apply(alloc, pools, cmd, Extent::Whole) {
+        Ok(reply) => Answer::Done(reply),
+        Err(ApplyFault::Refused(_)) => {
+            *faults = faults.saturating_add(1);
+            Answer::Failed
+        }
+        Err(ApplyFault::NoMemory) => Answer::NoMemory,
+    }
+}

@@ -1,0 +1,16 @@
+use crate::effects::Extent;
+
+/// A call that is to fail, counted from 1, and how much of its effect comes before.
+#[derive(Clone, Copy, Debug, PartialEq, Eq)]
+pub struct Planned {
+    pub call: u64,
+    pub extent: Extent,
+}
+
+impl Planned {
+    /// The extent at which this call is to fail, if it is.
+    pub fn find(failing: &[Planned], call: u64) -> Option<Extent> {
+        let planned = failing.iter().find(|planned| planned.call == call)?;
+        Some(planned.extent)
+    }
+}
