@@ -1,0 +1,20 @@
+use Rattle.std.proofs.Common.{◌≡◌, List, [], ◌∷◌, ◌++◌, subst, sym, append_assoc, append-nil}
+use Rattle.zr_names.specs.declared.unit.Unit.{Unit}
+use Rattle.zr_world.specs.declared.command.Answer.{Answer}
+use Rattle.zr_world.specs.declared.command.Cmd.{Cmd}
+use Rattle.zr_permit.specs.declared.job.JobSet.{JobSet}
+use Rattle.zr_permit.specs.Transcript.{Allowed, LegalAfter, Legal, Transcript, Turn}
+
+legal_after-more : (jobs : JobSet) (unit : Unit) (past turns : Transcript) (command : Cmd) (given : Answer) → LegalAfter jobs unit past turns → Allowed jobs unit (past ++ turns) command → LegalAfter jobs unit past (turns ++ (command, given) ∷ [])
+legal_after-more jobs unit past [] command given legal allowed =
+    let allows : Transcript → Type 0 = λ ts. Allowed jobs unit ts command in
+    (subst allows (append-nil past) allowed, tt)
+legal_after-more jobs unit past (turn ∷ turns) command given legal allowed =
+    let allows : Transcript → Type 0 = λ ts. Allowed jobs unit ts command in
+    let same : past ++ turn ∷ turns ≡ (past ++ turn ∷ []) ++ turns = sym (append_assoc past (turn ∷ []) turns) in
+    (legal.0, legal_after-more jobs unit (past ++ turn ∷ []) turns command given legal.1 (subst allows same allowed))
+
+-- a legal transcript stays legal with an allowed command, however it is answered
+pub legal-more : (jobs : JobSet) (unit : Unit) (turns : Transcript) (command : Cmd) (given : Answer) → Legal jobs unit turns → Allowed jobs unit turns command → Legal jobs unit (turns ++ (command, given) ∷ [])
+legal-more jobs unit turns command given legal allowed =
+    legal_after-more jobs unit [] turns command given legal allowed

@@ -1,0 +1,76 @@
+use Rattle.std.specs.Prelude.{⊤, ◌≡◌, ◌==◌, ◌&&◌, ◌||◌, ℕ, ◌+◌, ◌<◌, ◌≤◌, Bool, true, false, if◌then◌else◌, List, [], ◌∷◌, ◌++◌, Option, Some, None, nat_eq, nat_le, Contains, IsPermutation, filter, map, flat_map, length, slice_get, slice_index, is_some, not}
+use Rattle.std.specs.List.{starts_with}
+use Rattle.std.specs.List.Sorted.{IsSorted}
+use Rattle.std.specs.Ordering.{nat_cmp}
+use Rattle.std.specs.Cmp.Lexicographic.{pointwise, slice_cmp}
+use Rattle.zr_names.specs.declared.unit.Unit.{Unit}
+use Rattle.zr_names.specs.declared.unit.Work.{Work}
+use Rattle.zr_names.specs.declared.unit.Work.TheVariants as work
+use Rattle.zr_world.specs.declared.version.SetRow.{SetRow}
+use Rattle.zr_permit.specs.declared.job.Job.{Job}
+use Rattle.zr_permit.specs.declared.job.JobSet.{JobSet}
+use Rattle.zr_permit.specs.declared.job.Pattern.{Pattern}
+use Rattle.zr_permit.specs.declared.job.RuleSpec.{RuleSpec}
+use Rattle.zr_permit.specs.declared.job.TheConstants.{LONGEST_PATH}
+
+-- the path lies below a root: it begins with the root, and a `/` follows
+abbrev pub lies_below : List ℕ → List ℕ → Bool
+lies_below root path = starts_with nat_eq path root && (slice_index path (length root) == 47)
+
+-- a pattern matches its own path, and with `<` each path below it
+abbrev pub matches : Pattern → List ℕ → Bool
+matches pattern path =
+    pointwise nat_eq path pattern.path || (pattern.subtree && lies_below pattern.path path)
+
+-- the job of this number
+abbrev pub job_at : JobSet → ℕ → Option Job
+job_at jobs number = slice_get jobs.jobs number
+
+-- the rules by which a job's source snapshots are kept
+abbrev pub rules_of : Option Job → List RuleSpec
+rules_of None = []
+rules_of (Some job) = job.keep_source
+
+-- a job's filter
+abbrev pub matches_in : Option Job → List ℕ → Bool
+matches_in None path = false
+matches_in (Some job) path = matches job.filter path
+
+-- the listed paths that a job's filter matches
+abbrev pub matched : Option Job → List SetRow → List (List ℕ)
+matched job rows = filter (matches_in job) (map (λ row. row.path) rows)
+
+-- a path that a unit can work on: a bookmark's name still fits behind it
+abbrev pub fits : List ℕ → Bool
+fits path = nat_le (length path) LONGEST_PATH
+
+-- the units of one path: its snapshots are pruned where the job has rules
+abbrev pub units_at : ℕ → ℕ → List RuleSpec → List ℕ → List Unit
+units_at number moment [] path = []
+units_at number moment (rule ∷ rules) path =
+    record { job = number; moment = moment; work = work.PruneSource path } ∷ []
+
+-- the units that a scan of a job gives over a listing: those of each matched path that is not too long,
+-- in byte order of paths, all with the moment of the scan
+pub record UnitsOf (jobs : JobSet) (number moment : ℕ) (rows : List SetRow) (units : List Unit) : Type 0 where
+  pub paths : List (List ℕ)
+  pub listed : IsPermutation (filter fits (matched (job_at jobs number) rows)) paths
+  pub rising : IsSorted (slice_cmp nat_cmp) paths
+  pub units_are : units ≡ flat_map (units_at number moment (rules_of (job_at jobs number))) paths
+
+-- a unit that a scan of its job gives for some listing
+pub record IsScanned (jobs : JobSet) (unit : Unit) : Type 0 where
+  pub rows : List SetRow
+  pub units : List Unit
+  pub scanned : UnitsOf jobs unit.job unit.moment rows units
+  pub among : Contains units unit
+
+-- the work is a scan, or a scan gives it
+abbrev pub IsWorkOf : JobSet → Unit → Work → Type 0
+IsWorkOf jobs unit work.Scan = ⊤
+IsWorkOf jobs unit other = IsScanned jobs unit
+
+-- a unit of the job file: a scan of a job, or a unit that such a scan gives
+pub record IsOfFile (jobs : JobSet) (unit : Unit) : Type 0 where
+  pub in_file : unit.job < length jobs.jobs
+  pub work_is : IsWorkOf jobs unit unit.work

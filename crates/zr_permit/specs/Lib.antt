@@ -1,0 +1,6 @@
+pub mod Jobs
+pub mod Keep
+pub mod Result
+pub mod Seen
+pub mod Transcript
+pub mod Turned

@@ -1,0 +1,76 @@
+use Rattle.std.specs.Prelude.{⊤, ◌≡◌, ◌≢◌, ℕ, ◌+◌, ◌-◌, ◌^◌, List, [], ◌∷◌, ◌++◌, Option, Some, None, All, Contains, Bool, true, false, count_by, filter, length, map, min, not, slice_get}
+use Rattle.zr_names.specs.declared.outcome.Outcome.{Outcome}
+use Rattle.zr_names.specs.declared.outcome.Outcome.TheVariants as outcome
+use Rattle.zr_names.specs.declared.unit.Unit.{Unit}
+use Rattle.zr_names.specs.declared.unit.Work.{Work}
+use Rattle.zr_names.specs.declared.unit.Work.TheVariants as work
+use Rattle.zr_world.specs.declared.command.Answer.{Answer}
+use Rattle.zr_world.specs.declared.command.Answer.TheVariants as answer
+use Rattle.zr_world.specs.declared.command.Cmd.{Cmd}
+use Rattle.zr_world.specs.declared.command.Cmd.TheVariants as cmd
+use Rattle.zr_world.specs.declared.command.Reply.TheVariants as reply
+use Rattle.zr_world.specs.declared.version.SetRow.{SetRow}
+use Rattle.zr_world.specs.declared.version.VersionRow.{VersionRow}
+use Rattle.zr_permit.specs.declared.job.JobSet.{JobSet}
+use Rattle.zr_permit.specs.Jobs.{fits, job_at, matched, rules_of}
+use Rattle.zr_permit.specs.Keep.{doomed}
+use Rattle.zr_permit.specs.Transcript.{GoesOn, listed, Transcript, Turn}
+
+-- a number in an outcome stays at the greatest `u32` once there
+abbrev pub capped : ℕ → ℕ
+capped n = min n (2 ^ 32 - 1)
+
+-- a destroy that was done, and one that failed
+abbrev pub is_done_destroy : Cmd → Answer → Bool
+is_done_destroy (cmd.DestroySnap path name) (answer.Done given) = true
+is_done_destroy command given = false
+
+abbrev pub is_failed_destroy : Cmd → Answer → Bool
+is_failed_destroy (cmd.DestroySnap path name) answer.Failed = true
+is_failed_destroy command given = false
+
+-- a scan has finished: the datasets were listed, and these are the numbers of matched paths on which a
+-- unit can work, and of those that are too long
+pub record HasScanned (jobs : JobSet) (unit : Unit) (turns : Transcript) (found too_long : ℕ) : Type 0 where
+  pub rows : List SetRow
+  pub told : turns ≡ (cmd.Sets, answer.Done (reply.Sets rows)) ∷ []
+  pub found_are : found ≡ capped (length (filter fits (matched (job_at jobs unit.job) rows)))
+  pub too_long_are :
+      too_long ≡ capped (length (filter (λ path. not (fits path)) (matched (job_at jobs unit.job) rows)))
+
+-- a prune unit has finished: its dataset was listed, and the destroy of each doomed snapshot was given
+pub record HasPruned (jobs : JobSet) (unit : Unit) (path : List ℕ) (turns : Transcript) (destroyed busy : ℕ) : Type 0 where
+  pub goes_on : All (λ turn. GoesOn unit.work turn.0 turn.1) turns
+  pub rows : List VersionRow
+  pub told : listed path turns ≡ Some rows
+  pub issued :
+      All (λ name. Contains (map (λ (turn : Turn). turn.0) turns) (cmd.DestroySnap path name))
+      (doomed (rules_of (job_at jobs unit.job)) rows)
+  pub destroyed_are : destroyed ≡ capped (count_by (λ (turn : Turn). is_done_destroy turn.0 turn.1) turns)
+  pub busy_are : busy ≡ capped (count_by (λ (turn : Turn). is_failed_destroy turn.0 turn.1) turns)
+
+-- the command of this number, counted from 1, failed, and it is none after which the unit goes on
+pub record FaultsAt (unit_work : Work) (turns : Transcript) (number : ℕ) : Type 0 where
+  pub place : ℕ
+  pub command : Cmd
+  pub failed : slice_get turns place ≡ Some (command, answer.Failed)
+  pub ends : GoesOn unit_work command answer.Failed → ⊥
+  pub number_is : number ≡ capped (place + 1)
+
+-- the listing of the command of this number was garbled at this line
+pub record GarbledAt (turns : Transcript) (number line : ℕ) : Type 0 where
+  pub place : ℕ
+  pub command : Cmd
+  pub garbled : slice_get turns place ≡ Some (command, answer.Garbled line)
+  pub number_is : number ≡ capped (place + 1)
+
+-- the result of a transcript; memory may be refused at any time
+abbrev pub ResultOf : JobSet → Unit → Work → Transcript → Outcome → Type 0
+ResultOf jobs unit work.Scan turns (outcome.Scanned found too_long) =
+    HasScanned jobs unit turns found too_long
+ResultOf jobs unit (work.PruneSource path) turns (outcome.Pruned destroyed busy) =
+    HasPruned jobs unit path turns destroyed busy
+ResultOf jobs unit unit_work turns (outcome.ChildFault number) = FaultsAt unit_work turns number
+ResultOf jobs unit unit_work turns (outcome.Garbled number line) = GarbledAt turns number line
+ResultOf jobs unit unit_work turns outcome.NoMemory = ⊤
+ResultOf jobs unit unit_work turns other = ⊥

@@ -1,0 +1,91 @@
+use Rattle.std.specs.Prelude.{⊤, ◌≡◌, ◌≢◌, ℕ, List, [], ◌∷◌, ◌++◌, Option, Some, None, All, Contains, Bool, true, false, if◌then◌else◌, nat_eq, unwrap_or}
+use Rattle.std.specs.Cmp.Lexicographic.{pointwise}
+use Rattle.zr_names.specs.declared.unit.Unit.{Unit}
+use Rattle.zr_names.specs.declared.unit.Work.{Work}
+use Rattle.zr_names.specs.declared.unit.Work.TheVariants as work
+use Rattle.zr_world.specs.declared.command.Answer.{Answer}
+use Rattle.zr_world.specs.declared.command.Answer.TheVariants as answer
+use Rattle.zr_world.specs.declared.command.Cmd.{Cmd}
+use Rattle.zr_world.specs.declared.command.Cmd.TheVariants as cmd
+use Rattle.zr_world.specs.declared.command.Reply.TheVariants as reply
+use Rattle.zr_world.specs.declared.version.VersionRow.{VersionRow}
+use Rattle.zr_permit.specs.declared.job.JobSet.{JobSet}
+use Rattle.zr_permit.specs.Jobs.{job_at, rules_of}
+use Rattle.zr_permit.specs.Keep.{doomed}
+
+-- one command of a unit, and how it was answered
+abbrev pub Turn : Type 0
+Turn = Cmd × Answer
+
+-- what a unit asked and was told, in order
+abbrev pub Transcript : Type 0
+Transcript = List Turn
+
+-- the rows that a turn listed of a dataset
+abbrev pub rows_told : List ℕ → Cmd → Answer → Option (List VersionRow)
+rows_told path (cmd.Versions other) (answer.Done (reply.Versions rows)) =
+    if pointwise nat_eq other path then Some rows else None
+rows_told path command given = None
+
+-- the later of two listings, where it was taken
+abbrev pub later_of : Option (List VersionRow) → Option (List VersionRow) → Option (List VersionRow)
+later_of earlier None = earlier
+later_of earlier (Some rows) = Some rows
+
+-- the rows of a unit's last listing of a dataset's versions
+abbrev pub listed : List ℕ → Transcript → Option (List VersionRow)
+listed path [] = None
+listed path (turn ∷ turns) = later_of (rows_told path turn.0 turn.1) (listed path turns)
+
+-- the dataset whose versions a unit may always list
+abbrev pub own_path : Work → Option (List ℕ)
+own_path work.Scan = None
+own_path work.Parents = None
+own_path (work.Snap path prefix) = Some path
+own_path (work.Replicate path) = Some path
+own_path (work.PruneSource path) = Some path
+own_path (work.PruneTarget path) = None
+
+-- a unit goes on after a turn that was done; a prune unit also after a destroy that failed
+abbrev pub GoesOn : Work → Cmd → Answer → Type 0
+GoesOn unit_work command (answer.Done given) = ⊤
+GoesOn (work.PruneSource path) (cmd.DestroySnap other name) answer.Failed = ⊤
+GoesOn (work.PruneTarget path) (cmd.DestroySnap other name) answer.Failed = ⊤
+GoesOn unit_work command given = ⊥
+
+-- a destroy is not given twice
+abbrev pub IsNew : Transcript → Cmd → Type 0
+IsNew past cmd.Sets = ⊤
+IsNew past (cmd.Versions path) = ⊤
+IsNew past (cmd.DestroySnap path name) = All (λ turn. turn.0 ≢ cmd.DestroySnap path name) past
+
+-- the snapshots that a unit's own listing dooms
+abbrev pub doomed_in : JobSet → ℕ → Option (List VersionRow) → List (List ℕ)
+doomed_in jobs number None = []
+doomed_in jobs number (Some rows) = doomed (rules_of (job_at jobs number)) rows
+
+-- when a unit may give a command, beside what its answers allow: the datasets may be listed by any unit,
+-- the versions of the unit's own dataset by that unit, and a snapshot is destroyed by a prune unit of its
+-- dataset alone, where the unit's own listing shows it with no holds and no rule keeps it
+abbrev pub Permits : JobSet → ℕ → Work → Transcript → Cmd → Type 0
+Permits jobs number unit_work past cmd.Sets = ⊤
+Permits jobs number unit_work past (cmd.Versions path) = own_path unit_work ≡ Some path
+Permits jobs number (work.PruneSource own) past (cmd.DestroySnap path name) =
+    (path ≡ own) × Contains (doomed_in jobs number (listed own past)) name
+Permits jobs number unit_work past (cmd.DestroySnap path name) = ⊥
+
+-- the permission rule: a unit may give a command after a transcript
+pub record Allowed (jobs : JobSet) (unit : Unit) (past : Transcript) (command : Cmd) : Type 0 where
+  pub goes_on : All (λ turn. GoesOn unit.work turn.0 turn.1) past
+  pub is_new : IsNew past command
+  pub permits : Permits jobs unit.job unit.work past command
+
+-- each of some turns was allowed after those before it
+abbrev pub LegalAfter : JobSet → Unit → Transcript → Transcript → Type 0
+LegalAfter jobs unit past [] = ⊤
+LegalAfter jobs unit past (turn ∷ turns) =
+    Allowed jobs unit past turn.0 × LegalAfter jobs unit (past ++ turn ∷ []) turns
+
+-- a legal transcript
+abbrev pub Legal : JobSet → Unit → Transcript → Type 0
+Legal jobs unit turns = LegalAfter jobs unit [] turns

@@ -1,0 +1,49 @@
+use Rattle.std.specs.Prelude.{⊤, ◌≡◌, ◌⊎◌, ℕ, Bool, true, false, List, [], ◌∷◌, ◌++◌, Option, map}
+use Rattle.zr_world.specs.declared.command.Answer.{Answer}
+use Rattle.zr_world.specs.declared.command.Answer.TheVariants as answer
+use Rattle.zr_world.specs.declared.command.Cmd.{Cmd}
+use Rattle.zr_world.specs.declared.command.Entry.{Entry}
+use Rattle.zr_world.specs.declared.command.Entry.TheVariants.{Call}
+use Rattle.zr_world.specs.Answering.{appended, Fits}
+use Rattle.zr_permit.specs.declared.told.Told.{Told}
+use Rattle.zr_permit.specs.declared.told.Told.TheVariants as told
+use Rattle.zr_permit.specs.Transcript.{Transcript, Turn}
+
+-- what a unit is told of an answer
+abbrev pub told_of : Answer → Told
+told_of (answer.Done given) = told.Done
+told_of answer.Failed = told.Failed
+told_of (answer.Garbled line) = told.Garbled line
+told_of answer.NoMemory = told.NoMemory
+
+abbrev pub is_short : Told → Bool
+is_short told.NoMemory = true
+is_short other = false
+
+-- the entries of a runner's record for some turns
+abbrev pub calls : Transcript → List Entry
+calls turns = map (λ (turn : Turn). Call turn.0 turn.1) turns
+
+-- one command was given and answered: it stands last in the transcript
+pub record HasTurned (before after : Transcript) (command : Cmd) (given : Told) : Type 0 where
+  pub got : Answer
+  pub told_is : given ≡ told_of got
+  pub turns_are : after ≡ before ++ (command, got) ∷ []
+  pub shape : Fits command got
+
+-- after a run the command was answered; where memory was refused first, no child was started
+abbrev pub Turns : Transcript → Transcript → Cmd → Told → Type 0
+Turns before after command told.NoMemory =
+    (after ≡ before) ⊎ (after ≡ before ++ (command, answer.NoMemory) ∷ [])
+Turns before after command given = HasTurned before after command given
+
+-- a runner's record begins with a base and goes on with the calls of a transcript
+abbrev pub Records : Option (List Entry) → Option (List Entry) → Transcript → Type 0
+Records base now turns = now ≡ appended base (calls turns)
+
+-- after a run the record goes on with the calls of the new transcript; where memory was refused, the call
+-- may be missing, or stand with any answer
+abbrev pub RecordsRun : Option (List Entry) → Option (List Entry) → Transcript → Transcript → Cmd → Told → Type 0
+RecordsRun base now before after command told.NoMemory =
+    Records base now before ⊎ ((got : Answer) × Records base now (before ++ (command, got) ∷ []))
+RecordsRun base now before after command given = Records base now after

@@ -1,0 +1,12 @@
+//! Which commands a unit of work may give, and units that give no others.
+#![tactic(auto)]
+
+pub use guarded::{Guarded, Unbegun};
+pub use job::{Job, JobSet, Pattern, RuleSpec};
+pub use log::Log;
+pub use told::Told;
+
+pub mod guarded;
+pub mod job;
+pub mod log;
+pub mod told;
