@@ -1,4 +1,4 @@
-use Rattle.std.specs.Prelude.{◌≡◌, ◌==◌, ◌&&◌, ◌||◌, ℕ, ◌+◌, Bool, true, false, not, if◌then◌else◌, List, [], ◌∷◌, nat_lt, count_by, filter, length}
+use Rattle.std.specs.Prelude.{◌≡◌, ◌==◌, ◌&&◌, ◌||◌, ℕ, ◌+◌, Bool, true, false, not, if◌then◌else◌, List, [], ◌∷◌, ◌++◌, nat_lt, count_by}
 use Rattle.std.specs.List.{list_any}
 use Rattle.zr_world.specs.declared.version.VersionName.{VersionName}
 use Rattle.zr_world.specs.declared.version.VersionName.TheVariants.{Snap, Mark}
@@ -10,9 +10,9 @@ abbrev pub is_snap_name : VersionName → Bool
 is_snap_name (Snap name) = true
 is_snap_name (Mark name) = false
 
--- the rows of a listing that are snapshots
-abbrev pub snaps : List VersionRow → List VersionRow
-snaps rows = filter (λ row. is_snap_name row.name) rows
+-- a row of a listing is a snapshot
+abbrev pub is_snap : VersionRow → Bool
+is_snap row = is_snap_name row.name
 
 -- of two snapshots the newer is the one with the greater creation, or with equal creation and the
 -- greater transaction group
@@ -24,37 +24,35 @@ is_newer row other =
 abbrev pub is_as_old : VersionRow → VersionRow → Bool
 is_as_old row other = (row.creation == other.creation) && (row.txg == other.txg)
 
--- how many snapshots are newer than a row; of two that are as old, the later in the list is newer
+-- how many snapshots are newer than one; of two that are as old, the later in the list is newer
 abbrev pub newer_count : List VersionRow → VersionRow → List VersionRow → ℕ
-newer_count rows row later = count_by (is_newer row) rows + count_by (is_as_old row) later
+newer_count rows row later =
+    count_by (λ other. is_snap other && is_newer row other) rows
+    + count_by (λ other. is_snap other && is_as_old row other) later
 
--- a rule keeps a row of a list of snapshots, before these later ones: `last_n` the newest ones
+-- a rule keeps a snapshot of a listing, before these later rows: `last_n` the newest ones
 abbrev pub keeps : List VersionRow → VersionRow → List VersionRow → RuleSpec → Bool
 keeps rows row later (LastN count) = nat_lt (newer_count rows row later) count
 
--- a row is retained where at least one rule keeps it
+-- a snapshot is retained where at least one rule keeps it
 abbrev pub retained : List RuleSpec → List VersionRow → VersionRow → List VersionRow → Bool
 retained rules rows row later = list_any (keeps rows row later) rules
 
--- a row goes where nothing holds it and no rule keeps it
-abbrev pub goes : List RuleSpec → List VersionRow → VersionRow → List VersionRow → Bool
-goes rules rows row later = (row.refs == 0) && not (retained rules rows row later)
+-- what a row gives to the list of snapshots to destroy: its name, where it is a snapshot with no holds
+-- that no rule keeps
+abbrev pub going : List RuleSpec → List VersionRow → VersionRow → List VersionRow → VersionName → List (List ℕ)
+going rules rows row later (Mark name) = []
+going rules rows row later (Snap name) =
+    if (row.refs == 0) && not (retained rules rows row later) then name ∷ [] else []
 
--- the bytes of a version's name
-abbrev pub name_bytes : VersionName → List ℕ
-name_bytes (Snap name) = name
-name_bytes (Mark name) = name
-
--- of the snapshots from one on, those that go
+-- of the rows from one on, the snapshots that go
 abbrev pub going_from : List RuleSpec → List VersionRow → List VersionRow → List (List ℕ)
 going_from rules rows [] = []
 going_from rules rows (row ∷ later) =
-    if goes rules rows row later
-    then name_bytes row.name ∷ going_from rules rows later
-    else going_from rules rows later
+    going rules rows row later row.name ++ going_from rules rows later
 
 -- the snapshots of a listing that pruning destroys, in the order of the listing; where there are no
 -- rules, none
 abbrev pub doomed : List RuleSpec → List VersionRow → List (List ℕ)
 doomed [] rows = []
-doomed (rule ∷ rules) rows = going_from (rule ∷ rules) (snaps rows) (snaps rows)
+doomed (rule ∷ rules) rows = going_from (rule ∷ rules) rows rows

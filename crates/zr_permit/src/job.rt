@@ -1,3 +1,6 @@
+ghost use Rattle.std.specs.Prelude.{◌≡◌};
+ghost use Rattle.zr_permit.specs.Jobs.{lies_below};
+
 use zr_names::{JobName, Path, Rows};
 
 /// The longest path on which a unit works, in bytes: a bookmark's name of the longest kind still fits
@@ -31,4 +34,24 @@ pub struct Job {
 #[derive(Debug, Drop)]
 pub struct JobSet {
     pub jobs: Rows<Job>,
+}
+
+/// Whether a path lies below a root: it begins with the root, and a `/` follows.
+fn lies_below(root: &Path, path: &Path) -> bool
+    ensures { result ≡ lies_below root.now path.now }
+{
+    let root = root.as_bytes();
+    let path = path.as_bytes();
+    path.starts_with(root) && path.get(root.len()) == Some(&b'/')
+}
+
+impl Pattern {
+    ghost use Rattle.std.specs.Prelude.{◌≡◌};
+    ghost use Rattle.zr_permit.specs.Jobs.{matches};
+
+    pub fn matches(&self, path: &Path) -> bool
+        ensures { result ≡ matches self.now path.now }
+    {
+        *path == self.path || (self.subtree && lies_below(&self.path, path))
+    }
 }

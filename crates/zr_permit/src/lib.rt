@@ -3,10 +3,12 @@
 
 pub use guarded::{Guarded, Unbegun};
 pub use job::{Job, JobSet, Pattern, RuleSpec};
+pub use keep::doomed;
 pub use log::Log;
 pub use told::Told;
 
 pub mod guarded;
 pub mod job;
+pub mod keep;
 pub mod log;
 pub mod told;

@@ -1,0 +1,113 @@
+ghost use Rattle.std.specs.Prelude.{◌≡◌, ◌<◌, IfOk, OnOk, OnErr, ◌++◌};
+ghost use Rattle.zr_permit.specs.Keep.{
+  doomed,
+  going,
+  going_from,
+  is_as_old,
+  is_newer,
+  is_snap,
+  keeps,
+  newer_count,
+  retained,
+};
+
+use crate::job::RuleSpec;
+use std::alloc::{AllocError, Global};
+use zr_names::{Same, SnapName};
+use zr_world::{VersionName, VersionRow};
+
+fn is_snap(row: &VersionRow) -> bool
+    ensures { result ≡ is_snap row.now }
+{
+    matches!(row.name, VersionName::Snap(_))
+}
+
+fn is_newer(row: &VersionRow, other: &VersionRow) -> bool
+    ensures { result ≡ is_newer row.now other.now }
+{
+    row.creation < other.creation || (row.creation == other.creation && row.txg < other.txg)
+}
+
+fn is_as_old(row: &VersionRow, other: &VersionRow) -> bool
+    ensures { result ≡ is_as_old row.now other.now }
+{
+    row.creation == other.creation && row.txg == other.txg
+}
+
+/// How many snapshots of a listing are newer than this one, which these later rows follow.
+fn newer_count(rows: &[VersionRow], row: &VersionRow, later: &[VersionRow]) -> usize
+    ensures { result ≡ newer_count rows.now row.now later.now }
+{
+    let newer = rows
+        .iter()
+        .filter(|other| is_snap(other) && is_newer(row, other))
+        .count();
+    let as_old = later
+        .iter()
+        .filter(|other| is_snap(other) && is_as_old(row, other))
+        .count();
+    newer + as_old
+}
+
+impl RuleSpec {
+    ghost use Rattle.std.specs.Prelude.{◌≡◌};
+    ghost use Rattle.zr_permit.specs.Keep.{keeps};
+
+    /// Whether the rule keeps a snapshot of a listing, which these later rows follow.
+    fn keeps(&self, rows: &[VersionRow], row: &VersionRow, later: &[VersionRow]) -> bool
+        ensures { result ≡ keeps rows.now row.now later.now self.now }
+    {
+        match self {
+            RuleSpec::LastN { count } => newer_count(rows, row, later) < *count as usize,
+        }
+    }
+}
+
+fn is_retained(
+    rules: &[RuleSpec],
+    rows: &[VersionRow],
+    row: &VersionRow,
+    later: &[VersionRow],
+) -> bool
+    ensures { result ≡ retained rules.now rows.now row.now later.now }
+{
+    rules.iter().any(|rule| rule.keeps(rows, row, later))
+}
+
+/// Notes the name of a row if it is a snapshot with no holds that no rule keeps.
+fn note_going(
+    names: &mut Vec<SnapName>,
+    rules: &[RuleSpec],
+    rows: &[VersionRow],
+    row: &VersionRow,
+    later: &[VersionRow],
+) -> Result<(), AllocError>
+    ensures { OnOk result (names.new.items ≡
+        names.old.items ++ going rules.now rows.now row.now later.now row.now.name) }
+{
+    let VersionName::Snap(name) = &row.name else {
+        return Ok(());
+    };
+    if row.refs == 0 && !is_retained(rules, rows, row, later) {
+        names.push(name.same()?)?;
+    }
+    Ok(())
+}
+
+/// The snapshots of a listing that pruning destroys, in the order of the listing.
+pub fn doomed(
+    alloc: Global,
+    rules: &[RuleSpec],
+    rows: &[VersionRow],
+) -> Result<Vec<SnapName>, AllocError>
+    ensures { IfOk result (λ names. names.items ≡ doomed rules.now rows.now) }
+{
+    let mut names = Vec::new(alloc);
+    if rules.is_empty() {
+        return Ok(names);
+    }
+    for (place, row) in rows.iter().enumerate() {
+        note_going(&mut names, rules, rows, row, &rows[place + 1..])?;
+    }
+    Ok(names)
+}
