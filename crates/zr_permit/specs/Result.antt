@@ -12,6 +12,8 @@ use Rattle.zr_world.specs.declared.command.Reply.TheVariants as reply
 use Rattle.zr_world.specs.declared.version.SetRow.{SetRow}
 use Rattle.zr_world.specs.declared.version.VersionRow.{VersionRow}
 use Rattle.zr_permit.specs.declared.job.JobSet.{JobSet}
+use Rattle.zr_permit.specs.declared.told.Told.{Told}
+use Rattle.zr_permit.specs.declared.told.Told.TheVariants as told
 use Rattle.zr_permit.specs.Jobs.{fits, job_at, matched, rules_of}
 use Rattle.zr_permit.specs.Keep.{doomed}
 use Rattle.zr_permit.specs.Transcript.{GoesOn, listed, Transcript, Turn}
@@ -32,6 +34,7 @@ is_failed_destroy command given = false
 -- a scan has finished: the datasets were listed, and these are the numbers of matched paths on which a
 -- unit can work, and of those that are too long
 pub record HasScanned (jobs : JobSet) (unit : Unit) (turns : Transcript) (found too_long : ℕ) : Type 0 where
+  pub work_is : unit.work ≡ work.Scan
   pub rows : List SetRow
   pub told : turns ≡ (cmd.Sets, answer.Done (reply.Sets rows)) ∷ []
   pub found_are : found ≡ capped (length (filter fits (matched (job_at jobs unit.job) rows)))
@@ -39,7 +42,9 @@ pub record HasScanned (jobs : JobSet) (unit : Unit) (turns : Transcript) (found 
       too_long ≡ capped (length (filter (λ path. not (fits path)) (matched (job_at jobs unit.job) rows)))
 
 -- a prune unit has finished: its dataset was listed, and the destroy of each doomed snapshot was given
-pub record HasPruned (jobs : JobSet) (unit : Unit) (path : List ℕ) (turns : Transcript) (destroyed busy : ℕ) : Type 0 where
+pub record HasPruned (jobs : JobSet) (unit : Unit) (turns : Transcript) (destroyed busy : ℕ) : Type 0 where
+  pub path : List ℕ
+  pub work_is : unit.work ≡ work.PruneSource path
   pub goes_on : All (λ turn. GoesOn unit.work turn.0 turn.1) turns
   pub rows : List VersionRow
   pub told : listed path turns ≡ Some rows
@@ -65,12 +70,17 @@ pub record GarbledAt (turns : Transcript) (number line : ℕ) : Type 0 where
   pub number_is : number ≡ capped (place + 1)
 
 -- the result of a transcript; memory may be refused at any time
-abbrev pub ResultOf : JobSet → Unit → Work → Transcript → Outcome → Type 0
-ResultOf jobs unit work.Scan turns (outcome.Scanned found too_long) =
-    HasScanned jobs unit turns found too_long
-ResultOf jobs unit (work.PruneSource path) turns (outcome.Pruned destroyed busy) =
-    HasPruned jobs unit path turns destroyed busy
-ResultOf jobs unit unit_work turns (outcome.ChildFault number) = FaultsAt unit_work turns number
-ResultOf jobs unit unit_work turns (outcome.Garbled number line) = GarbledAt turns number line
-ResultOf jobs unit unit_work turns outcome.NoMemory = ⊤
-ResultOf jobs unit unit_work turns other = ⊥
+abbrev pub ResultOf : JobSet → Unit → Transcript → Outcome → Type 0
+ResultOf jobs unit turns (outcome.Scanned found too_long) = HasScanned jobs unit turns found too_long
+ResultOf jobs unit turns (outcome.Pruned destroyed busy) = HasPruned jobs unit turns destroyed busy
+ResultOf jobs unit turns (outcome.ChildFault number) = FaultsAt unit.work turns number
+ResultOf jobs unit turns (outcome.Garbled number line) = GarbledAt turns number line
+ResultOf jobs unit turns outcome.NoMemory = ⊤
+ResultOf jobs unit turns other = ⊥
+
+-- how a unit ends whose command of this number was not done
+abbrev pub ended_as : ℕ → Told → Outcome
+ended_as number told.Failed = outcome.ChildFault (capped number)
+ended_as number (told.Garbled line) = outcome.Garbled (capped number) line
+ended_as number told.NoMemory = outcome.NoMemory
+ended_as number told.Done = outcome.NoMemory

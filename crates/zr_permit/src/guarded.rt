@@ -2,7 +2,7 @@ use crate::job::JobSet;
 use crate::log::Log;
 use crate::told::Told;
 use std::alloc::Global;
-use zr_names::Unit;
+use zr_names::{Outcome, Unit};
 use zr_world::{Answer, Cmd, Zfs};
 
 /// A unit at work with its runner. It gives only commands that it is allowed to give.
@@ -23,10 +23,12 @@ pub struct Unbegun<'a, Z> {
 }
 
 impl<'a, Z: Zfs> Guarded<'a, Z> {
-    ghost use Rattle.std.specs.Prelude.{◌≡◌, ◌≢◌, ◌≤◌, ◌<◌, ◌++◌, ◌∷◌, [], IfOk, IfErr, List, Option, false};
+    ghost use Rattle.std.specs.Prelude.{◌≡◌, ◌≢◌, ◌≤◌, ◌<◌, ◌++◌, ◌∷◌, [], IfOk, IfErr, List, Option, false, length};
     ghost use Rattle.zr_permit.specs.Jobs.{IsOfFile};
+    ghost use Rattle.zr_permit.specs.Result.{ended_as};
     ghost use Rattle.zr_permit.specs.Transcript.{Allowed, Legal};
-    ghost use Rattle.zr_permit.specs.Turned.{Records, RecordsRun, Turns, is_short};
+    ghost use Rattle.std.specs.Option.{option_copied};
+    ghost use Rattle.zr_permit.specs.Turned.{last_answer, Records, RecordsRun, Turns, is_short};
     ghost use Rattle.zr_world.specs.Answering.{appended};
     ghost use Rattle.zr_world.specs.declared.command.Entry.{Entry};
     ghost use Rattle.zr_world.specs.declared.command.Entry.TheVariants.{Begin};
@@ -84,6 +86,30 @@ impl<'a, Z: Zfs> Guarded<'a, Z> {
         self.log.turns()
     }
 
+    /// How the last command was answered.
+    pub fn last(&self) -> Option<&Answer>
+        ensures { option_copied result ≡ last_answer self.now.log.turns }
+    {
+        match self.log.turns().last() {
+            Some((_, answer)) => Some(answer),
+            None => None,
+        }
+    }
+
+    /// How the unit ends after a command that was not done, by its number.
+    pub fn ended(&self, told: Told) -> Outcome
+        requires { told ≢ Told.Done }
+        ensures { result ≡ ended_as (length self.now.log.turns) told }
+    {
+        let number = u32::try_from(self.log.turns().len()).unwrap_or(u32::MAX);
+        match told {
+            Told::Done => unreachable!(),
+            Told::Failed => Outcome::ChildFault(number),
+            Told::Garbled(line) => Outcome::Garbled { at: number, line },
+            Told::NoMemory => Outcome::NoMemory,
+        }
+    }
+
     /// Gives a command, and keeps it with its answer. Where no room is left for them no child is started.
     pub fn run(&mut self, cmd: Cmd) -> Told
         requires allowed { Allowed self.old.log.jobs self.old.log.unit self.old.log.turns cmd }
@@ -96,9 +122,11 @@ impl<'a, Z: Zfs> Guarded<'a, Z> {
         ensures rose { result ≡ Told.Failed → Rose (Z.faults self.old.z.now) (Z.faults self.new.z.now) }
         ensures records { (base : Option (List Entry)) →
             Records base (Z.told self.old.z.now) self.old.log.turns →
-            RecordsRun base (Z.told self.new.z.now) self.old.log.turns self.new.log.turns cmd result }
+            RecordsRun base (Z.told self.new.z.now)
+            self.old.log.jobs self.old.log.unit self.new.log.turns result }
         ensures runner { self.new.z.ghost_name ≡ self.old.z.ghost_name }
     {
+        let _legal = self.log.turns();
         if self.log.make_room().is_err() {
             self.short = true;
             return Told::NoMemory;
