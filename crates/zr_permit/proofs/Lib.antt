@@ -1,3 +1,5 @@
 pub mod Legality
 pub mod Recording
 pub mod Ending
+pub mod Dooming
+pub mod Listing

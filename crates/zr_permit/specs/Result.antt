@@ -84,3 +84,8 @@ ended_as number told.Failed = outcome.ChildFault (capped number)
 ended_as number (told.Garbled line) = outcome.Garbled (capped number) line
 ended_as number told.NoMemory = outcome.NoMemory
 ended_as number told.Done = outcome.NoMemory
+
+-- the outcome is that of a failed child
+abbrev pub is_child_fault : Outcome → Bool
+is_child_fault (outcome.ChildFault number) = true
+is_child_fault other = false

@@ -96,6 +96,15 @@ impl<'a, Z: Zfs> Guarded<'a, Z> {
         }
     }
 
+    /// How the unit ends where memory is refused between its commands.
+    pub fn out_of_memory(&self) -> Outcome
+        ensures outcome { result ≡ Outcome.NoMemory }
+        ensures legal { Legal self.now.log.jobs self.now.log.unit self.now.log.turns }
+    {
+        let _legal = self.log.turns();
+        Outcome::NoMemory
+    }
+
     /// How the unit ends after a command that was not done, by its number.
     pub fn ended(&self, told: Told) -> Outcome
         requires { told ≢ Told.Done }

@@ -55,3 +55,26 @@ impl Pattern {
         *path == self.path || (self.subtree && lies_below(&self.path, path))
     }
 }
+
+impl JobSet {
+    ghost use Rattle.std.specs.Prelude.{◌≡◌};
+    ghost use Rattle.std.specs.Option.{option_copied};
+    ghost use Rattle.zr_permit.specs.Jobs.{job_at, rules_of};
+
+    /// The job of this number.
+    pub fn job(&self, number: u32) -> Option<&Job>
+        ensures { option_copied result ≡ job_at self.now number }
+    {
+        self.jobs.as_slice().get(number as usize)
+    }
+
+    /// The rules by which a job's source snapshots are kept.
+    pub fn rules(&self, number: u32) -> &[RuleSpec]
+        ensures { result.now ≡ rules_of (job_at self.now number) }
+    {
+        match self.job(number) {
+            Some(job) => job.keep_source.as_slice(),
+            None => &[],
+        }
+    }
+}

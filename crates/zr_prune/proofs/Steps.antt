@@ -1,0 +1,233 @@
+use Rattle.std.proofs.Common.{◌≡◌, ◌≢◌, ◌∙◌, ℕ, zero, suc, ◌+◌, ◌-◌, ◌<◌, ◌≤◌, ◌^◌, Bool, true, false, List, [], ◌∷◌, ◌++◌, Option, Some, None, ap, refl, sym, subst, arith, length, length-append, length-take-le, map, min, take, take_all, get_or, cond, zero-add, add-zero, slice_get, ◌⊎◌, inl, inr}
+use Rattle.std.specs.List.{All, AllPairs, count_by, Contains}
+use Rattle.std.proofs.lemmas.List.Sums.{sum_by-append}
+use Rattle.std.proofs.lemmas.List.{get_or-map, get_or-take, get_or_default, length-map, map-append, take_more}
+use Rattle.std.proofs.lemmas.List.Elements.{All-cons, All-head, All-map, All-nil, All-push, All-tail, Contains-append_right, Contains-get_or}
+use Rattle.zr_names.specs.declared.unit.Unit.{Unit}
+use Rattle.zr_names.specs.declared.unit.Work.{Work}
+use Rattle.zr_names.specs.declared.unit.Work.TheVariants as work
+use Rattle.zr_world.specs.declared.command.Answer.{Answer}
+use Rattle.zr_world.specs.declared.command.Answer.TheVariants as answer
+use Rattle.zr_world.specs.declared.command.Cmd.{Cmd}
+use Rattle.zr_world.specs.declared.command.Cmd.TheVariants as cmd
+use Rattle.std.specs.Cmp.Lexicographic.{nat_list_eq_equiv, pointwise}
+use Rattle.std.specs.Prelude.{nat_eq}
+use Rattle.zr_world.specs.declared.command.Reply.{Reply}
+use Rattle.zr_world.specs.declared.command.Reply.TheVariants as reply
+use Rattle.zr_world.specs.declared.version.VersionRow.{VersionRow}
+use Rattle.zr_world.specs.Answering.{Fits}
+use Rattle.zr_world.specs.Pools.{IsVersionList}
+use Rattle.zr_permit.proofs.Dooming.{doomed-differ}
+use Rattle.zr_permit.specs.declared.job.JobSet.{JobSet}
+use Rattle.zr_permit.specs.declared.told.Told.{Told}
+use Rattle.zr_permit.specs.declared.told.Told.TheVariants as told
+use Rattle.zr_permit.specs.Jobs.{job_at, rules_of}
+use Rattle.zr_permit.specs.Keep.{doomed}
+use Rattle.zr_permit.specs.Result.{capped, HasPruned, is_done_destroy, is_failed_destroy}
+use Rattle.zr_permit.specs.Transcript.{Allowed, doomed_in, GoesOn, IsNew, listed, Permits, rows_told, Transcript, Turn}
+use Rattle.zr_permit.specs.Turned.{HasTurned, told_of}
+use Rattle.zr_permit.proofs.Listing.{listed-more}
+use Rattle.zr_prune.specs.Pruning.{Pruning}
+
+-- the commands of some turns
+abbrev pub commands : Transcript → List Cmd
+commands turns = map (λ (turn : Turn). turn.0) turns
+
+same-name : (path one other : List ℕ) → cmd.DestroySnap path one ≡ cmd.DestroySnap path other → one ≡ other
+same-name path one other e = cc
+
+-- what holds of the commands of some turns
+All-commands : (P : Cmd → Type 0) (turns : Transcript) → All P (commands turns) → All (λ (turn : Turn). P turn.0) turns
+All-commands P [] each = All-nil (λ (turn : Turn). P turn.0)
+All-commands P (turn ∷ turns) each =
+    All-cons (λ (t : Turn). P t.0) turn turns (All-head P turn.0 (commands turns) each) (All-commands P turns (All-tail P turn.0 (commands turns) each))
+
+-- a destroy of another name than those given so far is new
+is_new-destroy : (path : List ℕ) (given : List (List ℕ)) (name : List ℕ) (turns : Transcript) → commands turns ≡ cmd.Versions path ∷ map (cmd.DestroySnap path) given → All (λ n. n ≢ name) given → All (λ (turn : Turn). turn.0 ≢ cmd.DestroySnap path name) turns
+is_new-destroy path given name turns are others =
+    let Other : Cmd → Type 0 = λ c. c ≢ cmd.DestroySnap path name in
+    let listing : Other (cmd.Versions path) = λ e. cc in
+    let destroys = All-map Other (cmd.DestroySnap path) given (λ k d inside e. others k d inside (same-name path (get_or given k d) name e)) in
+    let each = All-cons Other (cmd.Versions path) (map (cmd.DestroySnap path) given) listing destroys in
+    let all : List Cmd → Type 0 = All Other in
+    All-commands Other turns (subst all (sym are) each)
+
+-- names before a place differ from the one there
+others-before : (names : List (List ℕ)) (place : ℕ) → AllPairs (λ a b. a ≢ b) names → place < length names → All (λ n. n ≢ get_or names place []) (take place names)
+others-before names place differ inside k d below e =
+    let short : k < place = omega (arith, length-take-le place names) in
+    differ k place d short inside (sym (get_or-take place names k d short) ∙ e ∙ get_or_default names place [] d inside)
+
+permits-destroy : (jobs : JobSet) (unit : Unit) (unit_work : Work) (path : List ℕ) (names : List (List ℕ)) (place : ℕ) (turns : Transcript) → unit_work ≡ work.PruneSource path → names ≡ doomed_in jobs unit.job (listed path turns) → place < length names → Permits jobs unit.job unit_work turns (cmd.DestroySnap path (get_or names place []))
+permits-destroy jobs unit unit_work path names place turns is doomed inside =
+    let name = get_or names place [] in
+    let among : List (List ℕ) → Type 0 = λ ns. Contains ns name in
+    let permits : Work → Type 0 = λ w. Permits jobs unit.job w turns (cmd.DestroySnap path name) in
+    subst permits (sym is) (refl, subst among doomed (Contains-get_or names place [] inside))
+
+-- the next doomed snapshot may be given for destruction
+pub next-allowed : (jobs : JobSet) (unit : Unit) (path : List ℕ) (names : List (List ℕ)) (place : ℕ) (turns : Transcript) → Pruning jobs unit path names (take place names) turns → place < length names → Allowed jobs unit turns (cmd.DestroySnap path (get_or names place []))
+next-allowed jobs unit path names place turns pruning inside = record {
+  goes_on = pruning.goes_on;
+  is_new = is_new-destroy path (take place names) (get_or names place []) turns pruning.commands (others-before names place pruning.names_differ inside);
+  permits = permits-destroy jobs unit unit.work path names place turns pruning.work_is (pruning.names_are ∙ ap (doomed_in jobs unit.job) (sym pruning.told)) inside;
+}
+
+-- a destroy that was done or failed lets a prune unit go on
+goes-on : (unit_work : Work) (own path name : List ℕ) (got : Answer) (given : Told) → unit_work ≡ work.PruneSource own → given ≡ told_of got → (given ≡ told.Done) ⊎ (given ≡ told.Failed) → GoesOn unit_work (cmd.DestroySnap path name) got
+goes-on unit_work own path name got given is told_is answered =
+    let goes : Work → Type 0 = λ w. GoesOn w (cmd.DestroySnap path name) got in
+    subst goes (sym is) (by-answer got told_is) where
+      by-answer : (a : Answer) → given ≡ told_of a → GoesOn (work.PruneSource own) (cmd.DestroySnap path name) a
+      by-answer (answer.Done reply) e = tt
+      by-answer answer.Failed e = tt
+      by-answer (answer.Garbled line) e = elim answered [ inl done ↦ cc | inr failed ↦ cc ]
+      by-answer answer.NoMemory e = elim answered [ inl done ↦ cc | inr failed ↦ cc ]
+
+-- one more snapshot was given for destruction
+pub pruning-more : (jobs : JobSet) (unit : Unit) (path : List ℕ) (names : List (List ℕ)) (place : ℕ) (before after : Transcript) (given : Told) → Pruning jobs unit path names (take place names) before → place < length names → HasTurned before after (cmd.DestroySnap path (get_or names place [])) given → (given ≡ told.Done) ⊎ (given ≡ told.Failed) → Pruning jobs unit path names (take (place + 1) names) after
+pruning-more jobs unit path names place before after given pruning inside turned answered =
+    let name = get_or names place [] in
+    let destroy = cmd.DestroySnap path name in
+    let turn : Turn = (destroy, turned.got) in
+    let Goes : Turn → Type 0 = λ t. GoesOn unit.work t.0 t.1 in
+    let all : Transcript → Type 0 = All Goes in
+    let goes = goes-on unit.work path path name turned.got given pruning.work_is turned.told_is answered in
+    let given_more : take (place + 1) names ≡ take place names ++ name ∷ [] = take_more names place [] inside in
+    record {
+      work_is = pruning.work_is;
+      goes_on = subst all (sym turned.turns_are) (All-push Goes before turn pruning.goes_on goes);
+      rows = pruning.rows;
+      told = ap (listed path) turned.turns_are ∙ listed-more path before turn refl ∙ pruning.told;
+      names_are = pruning.names_are;
+      names_differ = pruning.names_differ;
+      commands =
+          ap commands turned.turns_are ∙ map-append (λ (t : Turn). t.0) before (turn ∷ [])
+          ∙ ap (λ cs. cs ++ destroy ∷ []) pruning.commands
+          ∙ ap (λ cs. cmd.Versions path ∷ cs) (sym (map-append (cmd.DestroySnap path) (take place names) (name ∷ [])))
+          ∙ ap (λ ns. cmd.Versions path ∷ map (cmd.DestroySnap path) ns) (sym given_more);
+    }
+
+-- the same unit of the same jobs
+pub pruning-same : (jobs jobs' : JobSet) (unit unit' : Unit) (path : List ℕ) (names given : List (List ℕ)) (turns : Transcript) → jobs' ≡ jobs → unit' ≡ unit → Pruning jobs unit path names given turns → Pruning jobs' unit' path names given turns
+pruning-same jobs jobs' unit unit' path names given turns same_jobs same_unit pruning =
+    let by_jobs : JobSet → Type 0 = λ j. Pruning j unit path names given turns in
+    let by_unit : Unit → Type 0 = λ u. Pruning jobs' u path names given turns in
+    subst by_unit (sym same_unit) (subst by_jobs (sym same_jobs) pruning)
+
+abbrev pub done_count : Transcript → ℕ
+done_count turns = count_by (λ (t : Turn). is_done_destroy t.0 t.1) turns
+
+abbrev pub failed_count : Transcript → ℕ
+failed_count turns = count_by (λ (t : Turn). is_failed_destroy t.0 t.1) turns
+
+count-more : (p : Turn → Bool) (turns : Transcript) (turn : Turn) → count_by p (turns ++ turn ∷ []) ≡ count_by p turns + cond (p turn) 1 0
+count-more p turns turn =
+    sum_by-append (λ (t : Turn). cond (p t) 1 0) turns (turn ∷ []) ∙ ap (λ n. count_by p turns + n) (zero-add (cond (p turn) 1 0))
+
+not-failed : told.Failed ≡ told.Done → ⊥
+not-failed e = cc
+
+not-garbled : (line : ℕ) → told.Failed ≡ told.Garbled line → ⊥
+not-garbled line e = cc
+
+not-short : told.Failed ≡ told.NoMemory → ⊥
+not-short e = cc
+
+-- what a destroy that was done adds to the counts
+pub counts-done : (path name : List ℕ) (before after : Transcript) → HasTurned before after (cmd.DestroySnap path name) told.Done → (done_count after ≡ done_count before + 1) × (failed_count after ≡ failed_count before)
+counts-done path name before after turned = by-answer turned.got turned.told_is turned.turns_are where
+  by-answer : (a : Answer) → told.Done ≡ told_of a → after ≡ before ++ (cmd.DestroySnap path name, a) ∷ [] → (done_count after ≡ done_count before + 1) × (failed_count after ≡ failed_count before)
+  by-answer (answer.Done reply) e turns =
+      (ap done_count turns ∙ count-more (λ (t : Turn). is_done_destroy t.0 t.1) before (cmd.DestroySnap path name, answer.Done reply), ap failed_count turns ∙ count-more (λ (t : Turn). is_failed_destroy t.0 t.1) before (cmd.DestroySnap path name, answer.Done reply) ∙ add-zero (failed_count before))
+  by-answer answer.Failed e turns = cc
+  by-answer (answer.Garbled line) e turns = cc
+  by-answer answer.NoMemory e turns = cc
+
+-- what a destroy that failed adds to the counts
+pub counts-failed : (path name : List ℕ) (before after : Transcript) → HasTurned before after (cmd.DestroySnap path name) told.Failed → (done_count after ≡ done_count before) × (failed_count after ≡ failed_count before + 1)
+counts-failed path name before after turned = by-answer turned.got turned.told_is turned.turns_are where
+  by-answer : (a : Answer) → told.Failed ≡ told_of a → after ≡ before ++ (cmd.DestroySnap path name, a) ∷ [] → (done_count after ≡ done_count before) × (failed_count after ≡ failed_count before + 1)
+  by-answer answer.Failed e turns =
+      (ap done_count turns ∙ count-more (λ (t : Turn). is_done_destroy t.0 t.1) before (cmd.DestroySnap path name, answer.Failed) ∙ add-zero (done_count before), ap failed_count turns ∙ count-more (λ (t : Turn). is_failed_destroy t.0 t.1) before (cmd.DestroySnap path name, answer.Failed))
+  by-answer (answer.Done reply) e turns = absurd (not-failed e)
+  by-answer (answer.Garbled line) e turns = absurd (not-garbled line e)
+  by-answer answer.NoMemory e turns = absurd (not-short e)
+
+-- a capped count goes on as the count does
+pub capped-more : (n : ℕ) → min (capped n + 1) (2 ^ 32 - 1) ≡ capped (n + 1)
+capped-more n = omega arith
+
+-- all doomed snapshots were given for destruction
+pub all-issued : (jobs : JobSet) (unit : Unit) (path : List ℕ) (names : List (List ℕ)) (place : ℕ) (turns : Transcript) → Pruning jobs unit path names (take place names) turns → length names ≤ place → All (λ name. Contains (commands turns) (cmd.DestroySnap path name)) names
+all-issued jobs unit path names place turns pruning all =
+    let destroys = map (cmd.DestroySnap path) names in
+    let all_given = ap (λ ns. cmd.Versions path ∷ map (cmd.DestroySnap path) ns) (take_all place names all) in
+    let are = sym (pruning.commands ∙ all_given) in
+    λ k d inside.
+    let name = get_or names k d in
+    let has : List Cmd → Type 0 = λ cs. Contains cs (cmd.DestroySnap path name) in
+    let at = sym (get_or-map (cmd.DestroySnap path) names k d (cmd.DestroySnap path d) inside) in
+    let here : Cmd → Type 0 = λ c. Contains destroys c in
+    let among = subst here (sym at) (Contains-get_or destroys k (cmd.DestroySnap path d) (omega (arith, length-map names (cmd.DestroySnap path)))) in
+    subst has are (Contains-append_right (cmd.Versions path ∷ []) destroys (cmd.DestroySnap path name) among)
+
+-- a prune unit that has given all doomed snapshots for destruction has finished
+pub has-pruned : (jobs : JobSet) (unit : Unit) (path : List ℕ) (names : List (List ℕ)) (place : ℕ) (turns : Transcript) (destroyed busy : ℕ) → Pruning jobs unit path names (take place names) turns → length names ≤ place → destroyed ≡ capped (done_count turns) → busy ≡ capped (failed_count turns) → HasPruned jobs unit turns destroyed busy
+has-pruned jobs unit path names place turns destroyed busy pruning all done failed =
+    let issued : List (List ℕ) → Type 0 = λ ns. All (λ name. Contains (commands turns) (cmd.DestroySnap path name)) ns in
+    record {
+      path = path;
+      work_is = pruning.work_is;
+      goes_on = pruning.goes_on;
+      rows = pruning.rows;
+      told = pruning.told;
+      issued = subst issued pruning.names_are (all-issued jobs unit path names place turns pruning all);
+      destroyed_are = done;
+      busy_are = failed;
+    }
+
+pointwise-same : (text : List ℕ) → pointwise nat_eq text text ≡ true
+pointwise-same text = nat_list_eq_equiv.refl text
+
+listed-own : (path : List ℕ) (rows : List VersionRow) → listed path ((cmd.Versions path, answer.Done (reply.Versions rows)) ∷ []) ≡ Some rows
+listed-own path rows = rw (pointwise-same path)
+
+-- what the first listing of a dataset dooms
+begun : (jobs : JobSet) (unit : Unit) (path : List ℕ) (names : List (List ℕ)) (rows : List VersionRow) (turns : Transcript) → unit.work ≡ work.PruneSource path → IsVersionList rows → turns ≡ (cmd.Versions path, answer.Done (reply.Versions rows)) ∷ [] → names ≡ doomed_in jobs unit.job (listed path turns) → Pruning jobs unit path names [] turns
+begun jobs unit path names rows turns is list turns_are names_are =
+    let turn : Turn = (cmd.Versions path, answer.Done (reply.Versions rows)) in
+    let Goes : Turn → Type 0 = λ t. GoesOn unit.work t.0 t.1 in
+    let all : Transcript → Type 0 = All Goes in
+    let listed_are : listed path turns ≡ Some rows = ap (listed path) turns_are ∙ listed-own path rows in
+    let doomed_are = names_are ∙ ap (doomed_in jobs unit.job) listed_are in
+    let differ : List (List ℕ) → Type 0 = AllPairs (λ a b. a ≢ b) in
+    record {
+      work_is = is;
+      goes_on = subst all (sym turns_are) (All-cons Goes turn [] (tt) (All-nil Goes));
+      rows = rows;
+      told = listed_are;
+      names_are = doomed_are;
+      names_differ = subst differ (sym doomed_are) (doomed-differ (rules_of (job_at jobs unit.job)) rows list.names_differ);
+      commands = ap commands turns_are;
+    }
+
+-- a prune unit has begun where its listing was done
+pub pruning-begun : (jobs : JobSet) (unit : Unit) (path : List ℕ) (names : List (List ℕ)) (turns : Transcript) → unit.work ≡ work.PruneSource path → HasTurned [] turns (cmd.Versions path) told.Done → names ≡ doomed_in jobs unit.job (listed path turns) → Pruning jobs unit path names [] turns
+pruning-begun jobs unit path names turns is turned names_are =
+    by-answer turned.got turned.told_is turned.shape turned.turns_are where
+  by-reply : (r : Reply) → Fits (cmd.Versions path) (answer.Done r) → turns ≡ (cmd.Versions path, answer.Done r) ∷ [] → Pruning jobs unit path names [] turns
+  by-reply (reply.Versions rows) fits turns_are = begun jobs unit path names rows turns is fits turns_are names_are
+  by-reply (reply.Sets rows) fits turns_are = absurd fits
+  by-reply reply.Nothing fits turns_are = absurd fits
+  by-answer : (a : Answer) → told.Done ≡ told_of a → Fits (cmd.Versions path) a → turns ≡ (cmd.Versions path, a) ∷ [] → Pruning jobs unit path names [] turns
+  by-answer (answer.Done r) e fits turns_are = by-reply r fits turns_are
+  by-answer answer.Failed e fits turns_are = cc
+  by-answer (answer.Garbled line) e fits turns_are = cc
+  by-answer answer.NoMemory e fits turns_are = cc
+
+-- a prune unit ends where its listing failed
+pub listing-ends : (unit_work : Work) (own path : List ℕ) → unit_work ≡ work.PruneSource own → GoesOn unit_work (cmd.Versions path) answer.Failed → ⊥
+listing-ends unit_work own path is goes =
+    let Goes : Work → Type 0 = λ w. GoesOn w (cmd.Versions path) answer.Failed in
+    subst Goes is goes

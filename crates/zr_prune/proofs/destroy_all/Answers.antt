@@ -1,0 +1,49 @@
+use Rattle.std.proofs.Common.{◌∙◌, ap, arith, inl, inr, refl, sym, ◌+◌, ◌-◌, ◌^◌, min}
+use Rattle.zr_permit.specs.Result.{capped}
+use Rattle.zr_prune.proofs.Steps.{capped-more, counts-done, counts-failed, has-pruned, pruning-more, pruning-same}
+use Rattle.zr_prune.proofs.destroy_all.Goals as goal
+use Rattle.zr_prune.proofs.destroy_all.Goals.{in-Done, in-Failed}
+
+pub loop-place-preserved : goal.loop-place-preserved
+loop-place-preserved g c =
+    let inv = c.loop-place.invariant in
+    let path = c.args.path.now in
+    let names = c.args.names.now in
+    let place = c.loop-place.place in
+    let inside = c.loop-place-test.true in
+    let does = c.destroy.ensures in
+    elim c.match-destroy.branch [
+      | in-Done w ↦
+          let told = w.in-Done.ensures in
+          let counts = counts-done path _ _ _ told.turns in
+          record {
+            jobs = does.jobs ∙ inv.jobs;
+            unit = does.unit ∙ inv.unit;
+            ample = told.ample refl;
+            pruning = pruning-same _ _ _ _ _ _ _ _ does.jobs does.unit (pruning-more _ _ path names place _ _ _ inv.pruning inside told.turns (inl refl));
+            destroyed = w.destroyed-is ∙ w.saturating_add-destroyed.ensures ∙ ap (λ n. min (n + 1) (2 ^ 32 - 1)) inv.destroyed ∙ capped-more _ ∙ ap capped (sym counts.0);
+            busy = w.busy-is ∙ inv.busy ∙ ap capped (sym counts.1);
+            later = omega (arith, inv.later, does.later);
+            records = λ base before. told.records base (inv.records base before);
+            runner = does.runner ∙ inv.runner;
+          }
+      | in-Failed w ↦
+          let told = w.in-Failed.ensures in
+          let counts = counts-failed path _ _ _ told.turns in
+          record {
+            jobs = does.jobs ∙ inv.jobs;
+            unit = does.unit ∙ inv.unit;
+            ample = told.ample refl;
+            pruning = pruning-same _ _ _ _ _ _ _ _ does.jobs does.unit (pruning-more _ _ path names place _ _ _ inv.pruning inside told.turns (inr refl));
+            destroyed = w.destroyed-is ∙ inv.destroyed ∙ ap capped (sym counts.0);
+            busy = w.busy-is ∙ w.saturating_add-busy.ensures ∙ ap (λ n. min (n + 1) (2 ^ 32 - 1)) inv.busy ∙ capped-more _ ∙ ap capped (sym counts.1);
+            later = omega (arith, inv.later, does.later);
+            records = λ base before. told.records base (inv.records base before);
+            runner = does.runner ∙ inv.runner;
+          }
+    ]
+
+pub returns-clause-result : goal.returns-clause-result
+returns-clause-result g c =
+    let inv = c.loop-place.invariant in
+    has-pruned _ _ c.args.path.now c.args.names.now c.loop-place.place _ _ _ (pruning-same _ _ _ _ _ _ _ _ (sym inv.jobs) (sym inv.unit) inv.pruning) c.loop-place-test.false inv.destroyed inv.busy
