@@ -89,3 +89,8 @@ ended_as number told.Done = outcome.NoMemory
 abbrev pub is_child_fault : Outcome → Bool
 is_child_fault (outcome.ChildFault number) = true
 is_child_fault other = false
+
+-- the outcome is want of memory
+abbrev pub is_out_of_memory : Outcome → Bool
+is_out_of_memory outcome.NoMemory = true
+is_out_of_memory other = false

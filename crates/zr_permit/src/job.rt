@@ -1,5 +1,5 @@
 ghost use Rattle.std.specs.Prelude.{◌≡◌};
-ghost use Rattle.zr_permit.specs.Jobs.{lies_below};
+ghost use Rattle.zr_permit.specs.Jobs.{fits, lies_below};
 
 use zr_names::{JobName, Path, Rows};
 
@@ -59,13 +59,23 @@ impl Pattern {
 impl JobSet {
     ghost use Rattle.std.specs.Prelude.{◌≡◌};
     ghost use Rattle.std.specs.Option.{option_copied};
-    ghost use Rattle.zr_permit.specs.Jobs.{job_at, rules_of};
+    ghost use Rattle.zr_permit.specs.Jobs.{job_at, matches_in, rules_of};
 
     /// The job of this number.
     pub fn job(&self, number: u32) -> Option<&Job>
         ensures { option_copied result ≡ job_at self.now number }
     {
         self.jobs.as_slice().get(number as usize)
+    }
+
+    /// Whether the filter of the job of this number matches a path.
+    pub fn matches(&self, number: u32, path: &Path) -> bool
+        ensures { result ≡ matches_in (job_at self.now number) path.now }
+    {
+        match self.job(number) {
+            Some(job) => job.filter.matches(path),
+            None => false,
+        }
     }
 
     /// The rules by which a job's source snapshots are kept.
@@ -77,4 +87,11 @@ impl JobSet {
             None => &[],
         }
     }
+}
+
+/// Whether units can work on a path: it is not too long.
+pub fn fits(path: &Path) -> bool
+    ensures { result ≡ fits path.now }
+{
+    path.as_bytes().len() <= LONGEST_PATH
 }

@@ -2,7 +2,7 @@
 #![tactic(auto)]
 
 pub use guarded::{Guarded, Unbegun};
-pub use job::{Job, JobSet, Pattern, RuleSpec};
+pub use job::{Job, JobSet, Pattern, RuleSpec, fits};
 pub use keep::doomed;
 pub use log::Log;
 pub use told::Told;

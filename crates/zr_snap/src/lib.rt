@@ -1,0 +1,206 @@
+//! The unit of work that lists the datasets and finds the units of a job.
+#![tactic(auto)]
+
+ghost use Rattle.std.specs.Prelude.{◌≡◌, ◌≤◌, [], ◌∷◌, ◌++◌, IfOk, OnOk, IsPermutation, List, Option, false, true, filter, flat_map, length, map, not};
+ghost use Rattle.std.specs.Ordering.{nat_cmp};
+ghost use Rattle.std.specs.List.Sorted.{IsSorted};
+ghost use Rattle.std.specs.Cmp.Lexicographic.{slice_cmp};
+ghost use Rattle.zr_names.specs.Count.{Rose};
+ghost use Rattle.zr_names.specs.declared.outcome.Outcome.TheVariants as outcome;
+ghost use Rattle.zr_names.specs.declared.unit.Work.TheVariants as work;
+ghost use Rattle.zr_permit.specs.Jobs.{fits, job_at, matched, rules_of, units_at, UnitsOf};
+ghost use Rattle.zr_permit.specs.Result.{capped, is_child_fault, is_out_of_memory, ResultOf};
+ghost use Rattle.zr_permit.specs.Turned.{HasTurned, is_short, Records, RecordsRun, RecordsUnit, Turns};
+ghost use Rattle.zr_snap.specs.Scanning.{Gives};
+ghost use Rattle.zr_world.specs.declared.command.Cmd.TheVariants as cmd;
+ghost use Rattle.zr_world.specs.declared.command.Entry.{Entry};
+
+use std::alloc::{AllocError, Global};
+use zr_names::{Moment, Outcome, Path, Rows, Same, Unit, Work};
+use zr_permit::{Guarded, JobSet, RuleSpec, Told, fits};
+use zr_world::{Answer, Cmd, Reply, SetRow, Zfs};
+
+/// The listed paths that a job's filter matches and on which units can work.
+fn fitting_paths(
+    alloc: Global,
+    jobs: &JobSet,
+    job: u32,
+    rows: &[SetRow],
+) -> Result<Vec<Path>, AllocError>
+    ensures { IfOk result (λ paths. paths.items ≡ filter fits (matched (job_at jobs.now job) rows.now)) }
+{
+    let mut paths = Vec::new(alloc);
+    for row in rows {
+        if jobs.matches(job, &row.path) && fits(&row.path) {
+            paths.push(row.path.same()?)?;
+        }
+    }
+    Ok(paths)
+}
+
+/// How many of the listed paths that a job's filter matches are too long to work on.
+fn too_long_count(jobs: &JobSet, job: u32, rows: &[SetRow]) -> usize
+    ensures { result ≡ length (filter (λ path. not (fits path)) (matched (job_at jobs.now job) rows.now)) }
+{
+    let mut count = 0;
+    for row in rows {
+        if jobs.matches(job, &row.path) && !fits(&row.path) {
+            count += 1;
+        }
+    }
+    count
+}
+
+/// The paths in byte order.
+fn sorted(mut paths: Vec<Path>) -> Result<Vec<Path>, AllocError>
+    ensures same { IfOk result (λ rising. IsPermutation paths.items rising.items) }
+    ensures len { IfOk result (λ rising. length rising.items ≡ length paths.items) }
+    ensures rising { IfOk result (λ rising. IsSorted (slice_cmp nat_cmp) rising.items) }
+{
+    paths.sort()?;
+    Ok(paths)
+}
+
+/// Adds the units of one path: its snapshots are pruned where the job has rules.
+fn add_units(
+    units: &mut Vec<Unit>,
+    rules: &[RuleSpec],
+    job: u32,
+    moment: Moment,
+    path: &Path,
+) -> Result<(), AllocError>
+    ensures { OnOk result (units.new.items ≡ units.old.items ++ units_at job moment rules.now path.now) }
+{
+    if rules.is_empty() {
+        return Ok(());
+    }
+    let work = Work::PruneSource(path.same()?);
+    units.push(Unit { job, moment, work })?;
+    Ok(())
+}
+
+/// The units of each path, in the order of the paths.
+fn units_on(
+    alloc: Global,
+    jobs: &JobSet,
+    job: u32,
+    moment: Moment,
+    paths: &[Path],
+) -> Result<Vec<Unit>, AllocError>
+    ensures { IfOk result (λ units.
+        units.items ≡ flat_map (units_at job moment (rules_of (job_at jobs.now job))) paths.now) }
+{
+    let mut units = Vec::new(alloc);
+    let rules = jobs.rules(job);
+    for path in paths {
+        add_units(&mut units, rules, job, moment, path)?;
+    }
+    Ok(units)
+}
+
+/// Finds the units of a job over a listing of the datasets.
+fn find_units(
+    alloc: Global,
+    jobs: &JobSet,
+    unit: &Unit,
+    rows: &[SetRow],
+) -> Result<(Outcome, Vec<Unit>), AllocError>
+    ensures found { IfOk result (λ found. found.0 ≡ outcome.Scanned
+        (capped (length (filter fits (matched (job_at jobs.now unit.now.job) rows.now))))
+        (capped (length (filter (λ path. not (fits path)) (matched (job_at jobs.now unit.now.job) rows.now))))) }
+    ensures units { IfOk result (λ found. UnitsOf jobs.now unit.now.job unit.now.moment rows.now found.1.items) }
+{
+    let paths = sorted(fitting_paths(alloc, jobs, unit.job, rows)?)?;
+    let units = units_on(alloc, jobs, unit.job, unit.moment, paths.as_slice())?;
+    let outcome = Outcome::Scanned {
+        found: capped(paths.len()),
+        too_long: capped(too_long_count(jobs, unit.job, rows)),
+    };
+    Ok((outcome, units))
+}
+
+/// A count as it stands in an outcome.
+fn capped(count: usize) -> u32
+    ensures { result ≡ capped count }
+{
+    u32::try_from(count).unwrap_or(u32::MAX)
+}
+
+/// Lists the datasets.
+fn list<Z: Zfs>(g: &mut Guarded<'_, Z>) -> Told
+    requires fresh { g.old.log.turns ≡ [] }
+    requires ample { g.old.short ≡ false }
+    ensures jobs { g.new.log.jobs ≡ g.old.log.jobs }
+    ensures unit { g.new.log.unit ≡ g.old.log.unit }
+    ensures turns { Turns [] g.new.log.turns cmd.Sets result }
+    ensures later { Z.faults g.old.z.now ≤ Z.faults g.new.z.now }
+    ensures rose { result ≡ Told.Failed → Rose (Z.faults g.old.z.now) (Z.faults g.new.z.now) }
+    ensures records { (base : Option (List Entry)) → Records base (Z.told g.old.z.now) [] →
+        RecordsRun base (Z.told g.new.z.now) g.old.log.jobs g.old.log.unit g.new.log.turns result }
+    ensures runner { g.new.z.ghost_name ≡ g.old.z.ghost_name }
+{
+    g.run(Cmd::Sets)
+}
+
+/// Finds the units of the scan's job over its listing, which was answered last.
+fn scan_listed<Z: Zfs>(
+    alloc: Global,
+    g: &Guarded<'_, Z>,
+) -> Result<(Outcome, Vec<Unit>), AllocError>
+    requires work { g.now.log.unit.work ≡ work.Scan }
+    requires listed { HasTurned [] g.now.log.turns cmd.Sets Told.Done }
+    ensures result { IfOk result (λ found.
+        ResultOf g.now.log.jobs g.now.log.unit g.now.log.turns found.0) }
+    ensures units { IfOk result (λ found.
+        Gives g.now.log.jobs g.now.log.unit g.now.log.turns found.0 found.1.items) }
+    ensures no_fault { IfOk result (λ found. is_child_fault found.0 ≡ false) }
+    ensures memory { IfOk result (λ found. is_out_of_memory found.0 ≡ false) }
+{
+    match g.last() {
+        Some(Answer::Done(Reply::Sets(rows))) => {
+            find_units(alloc, g.jobs(), g.unit(), rows.as_slice())
+        }
+        _ => unreachable!(),
+    }
+}
+
+/// The outcome of a scan whose listing was done.
+fn scan_done<Z: Zfs>(alloc: Global, g: &Guarded<'_, Z>) -> (Outcome, Vec<Unit>)
+    requires work { g.now.log.unit.work ≡ work.Scan }
+    requires listed { HasTurned [] g.now.log.turns cmd.Sets Told.Done }
+    ensures result { ResultOf g.now.log.jobs g.now.log.unit g.now.log.turns result.0 }
+    ensures units { Gives g.now.log.jobs g.now.log.unit g.now.log.turns result.0 result.1.items }
+    ensures no_fault { is_child_fault result.0 ≡ false }
+    ensures records { (base told : Option (List Entry)) → Records base told g.now.log.turns →
+        RecordsUnit base told g.now.log.jobs g.now.log.unit g.now.log.turns result.0 }
+{
+    match scan_listed(alloc, g) {
+        Ok(found) => found,
+        Err(_) => (g.out_of_memory(), Vec::new(alloc)),
+    }
+}
+
+/// Lists the datasets, and gives the units of each path that the job's filter matches, in byte order of
+/// paths. A path that is too long to work on gives no units, and is counted.
+pub fn scan<Z: Zfs>(alloc: Global, g: &mut Guarded<'_, Z>) -> (Outcome, Vec<Unit>)
+    requires fresh { g.old.log.turns ≡ [] }
+    requires ample { g.old.short ≡ false }
+    requires kind { g.old.log.unit.work ≡ work.Scan }
+    ensures jobs { g.new.log.jobs ≡ g.old.log.jobs }
+    ensures unit { g.new.log.unit ≡ g.old.log.unit }
+    ensures result { ResultOf g.old.log.jobs g.old.log.unit g.new.log.turns result.0 }
+    ensures units { Gives g.old.log.jobs g.old.log.unit g.new.log.turns result.0 result.1.items }
+    ensures later { Z.faults g.old.z.now ≤ Z.faults g.new.z.now }
+    ensures fault_rose { is_child_fault result.0 ≡ true →
+        Rose (Z.faults g.old.z.now) (Z.faults g.new.z.now) }
+    ensures records { (base : Option (List Entry)) → Records base (Z.told g.old.z.now) [] →
+        RecordsUnit base (Z.told g.new.z.now) g.old.log.jobs g.old.log.unit g.new.log.turns result.0 }
+    ensures runner { g.new.z.ghost_name ≡ g.old.z.ghost_name }
+{
+    match list(g) {
+        Told::Done => scan_done(alloc, g),
+        Told::Failed => (g.ended(Told::Failed), Vec::new(alloc)),
+        Told::Garbled(line) => (g.ended(Told::Garbled(line)), Vec::new(alloc)),
+        Told::NoMemory => (Outcome::NoMemory, Vec::new(alloc)),
+    }
+}
