@@ -1,0 +1,8 @@
+//! A relay of bytes between two ends: the traits of the ends, the relay, and ends in memory.
+#![tactic(auto)]
+
+mod ends;
+mod mem_sink;
+
+pub use ends::{Failed, PutFault, Sink, Source};
+pub use mem_sink::MemSink;
