@@ -1,3 +1,4 @@
 pub mod Faults
 pub mod Ends
 pub mod Memory
+pub mod Relay

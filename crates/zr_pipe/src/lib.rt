@@ -3,6 +3,8 @@
 
 mod ends;
 mod mem_sink;
+mod pieces;
 
 pub use ends::{Failed, PutFault, Sink, Source};
 pub use mem_sink::MemSink;
+pub use pieces::{LIMIT, PIECE, RelayEnd, relay};
