@@ -2,11 +2,10 @@
 use Rattle.std.proofs.Common.{◌≡◌, ℕ, ◌+◌, ◌<◌, ◌≤◌, ◌↔◌, Bool, true, false, List, [], ◌∷◌, ◌++◌, length, take, Option, None, Some, refl, sym, ap, ◌∙◌, subst, arith, length-append}
 use Rattle.std.proofs.lemmas.List.{length-take-le}
 use Rattle.std.specs.Io.KnownBytes.{append_known, prepend_known, IsAtEnd}
-use Rattle.zr_pipe.specs.declared.pieces.TheConstants.{PIECE, LIMIT}
 use Rattle.zr_pipe.specs.declared.pieces.RelayEnd.{RelayEnd}
 use Rattle.zr_pipe.specs.declared.pieces.RelayEnd.TheVariants.{Whole, ReadFault, Limit, NoMemory}
 use Rattle.zr_pipe.specs.Ends.{IsNoneAtEnd, WroteFront}
-use Rattle.zr_pipe.specs.Relay.{EndsBy, Relayed, Carried, Stopped, CountsFault}
+use Rattle.zr_pipe.specs.Relay.{piece_max, relay_max, EndsBy, Relayed, Carried, Stopped, CountsFault}
 use Rattle.zr_pipe.proofs.EndsLemmas.{append_known-append, append_known-nil, prepend_known-append, prepend_known-nil}
 
 -- nothing was moved yet
@@ -34,7 +33,7 @@ relayed_stopped left left' left'' written written' written'' moved ending first 
   put = last.put.told ∙ ap (λ w. append_known w (take last.put.count last.piece)) first.put ∙ append_known-append written first.whole (take last.put.count last.piece);
   within = last.put.within;
   small = last.small;
-  limited = subst (λ n. n + last.put.count ≤ LIMIT) (sym first.moved_is) last.limited;
+  limited = subst (λ n. n + last.put.count ≤ relay_max) (sym first.moved_is) last.limited;
   ends = subst (λ n. EndsBy ending n last.piece left'') (sym first.moved_is) last.ends;
 }
 
@@ -46,7 +45,7 @@ at_end (Some all) None none took = tt
 at_end (Some all) (Some rest) none took = let gone : all ≡ [] = none.0 refl in cc
 
 pub stopped_whole : (left left' written : Option (List ℕ)) (moved count : ℕ) (buffer : List ℕ) → count ≡ 0
-    → left ≡ prepend_known (take count buffer) left' → IsNoneAtEnd left count → moved ≤ LIMIT
+    → left ≡ prepend_known (take count buffer) left' → IsNoneAtEnd left count → moved ≤ relay_max
     → Stopped left left' written written moved (Whole moved)
 stopped_whole left left' written moved count buffer zero took none limited =
     let nothing : take count buffer ≡ [] = ap (λ n. take n buffer) zero in
@@ -60,7 +59,7 @@ stopped_whole left left' written moved count buffer zero took none limited =
       ends = (refl, refl, at_end left left' (subst (IsNoneAtEnd left) zero none) same);
     }
 
-pub stopped_read_fault : (left left' written : Option (List ℕ)) (moved : ℕ) → left' ≡ left → moved ≤ LIMIT
+pub stopped_read_fault : (left left' written : Option (List ℕ)) (moved : ℕ) → left' ≡ left → moved ≤ relay_max
     → Stopped left left' written written moved (ReadFault moved)
 stopped_read_fault left left' written moved same limited = record {
   piece = [];
@@ -74,7 +73,7 @@ stopped_read_fault left left' written moved same limited = record {
 -- a piece was taken, and a front of it was put
 pub stopped_piece : (left left' written written' : Option (List ℕ)) (moved count : ℕ) (buffer : List ℕ) (ending : RelayEnd)
     → left ≡ prepend_known (take count buffer) left' → WroteFront written written' (take count buffer)
-    → count ≤ length buffer → length buffer ≤ PIECE → moved + length buffer ≤ LIMIT
+    → count ≤ length buffer → length buffer ≤ piece_max → moved + length buffer ≤ relay_max
     → ((piece : List ℕ) → length piece ≡ count → EndsBy ending moved piece left')
     → Stopped left left' written written' moved ending
 stopped_piece left left' written written' moved count buffer ending took gave fits small limited ends =
@@ -90,8 +89,8 @@ stopped_piece left left' written written' moved count buffer ending took gave fi
 
 -- a piece more was taken where no more may be put
 pub stopped_limit : (left left' written : Option (List ℕ)) (count : ℕ) (buffer : List ℕ)
-    → left ≡ prepend_known (take count buffer) left' → count ≤ length buffer → length buffer ≤ PIECE → ¬ count ≡ 0
-    → Stopped left left' written written LIMIT Limit
+    → left ≡ prepend_known (take count buffer) left' → count ≤ length buffer → length buffer ≤ piece_max → ¬ count ≡ 0
+    → Stopped left left' written written relay_max Limit
 stopped_limit left left' written count buffer took fits small some =
     let size : length (take count buffer) ≡ count = length-take-le count buffer fits in
     record {

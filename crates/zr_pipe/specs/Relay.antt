@@ -1,11 +1,18 @@
 -- What a relay moves from a source to a sink, and how it ends.
-use Rattle.std.specs.Prelude.{◌≡◌, ℕ, ◌+◌, ◌<◌, ◌≤◌, Bool, true, false, List, [], ◌++◌, length, take, Option}
+use Rattle.std.specs.Prelude.{◌≡◌, ℕ, ◌+◌, ◌^◌, ◌<◌, ◌≤◌, Bool, true, false, List, [], ◌++◌, length, take, Option}
 use Rattle.std.specs.Io.KnownBytes.{append_known, prepend_known, IsAtEnd}
 use Rattle.zr_pipe.specs.Faults.{Rose}
 use Rattle.zr_pipe.specs.Ends.{WroteFront}
-use Rattle.zr_pipe.specs.declared.pieces.TheConstants.{PIECE, LIMIT}
 use Rattle.zr_pipe.specs.declared.pieces.RelayEnd.{RelayEnd}
 use Rattle.zr_pipe.specs.declared.pieces.RelayEnd.TheVariants.{Whole, ReadFault, WriteFault, Limit, NoMemory}
+
+-- the most bytes in a piece
+abbrev pub piece_max : ℕ
+piece_max = 65536
+
+-- the most bytes that a relay puts
+abbrev pub relay_max : ℕ
+relay_max = 2 ^ 62
 
 -- the source failed
 abbrev pub is_read_fault : RelayEnd → Bool
@@ -34,8 +41,8 @@ abbrev pub EndsBy : RelayEnd → ℕ → List ℕ → Option (List ℕ) → Type
 EndsBy (Whole number) moved piece left = (number ≡ moved) × (piece ≡ []) × IsAtEnd left
 EndsBy (ReadFault number) moved piece left = (number ≡ moved) × (piece ≡ [])
 EndsBy (WriteFault number) moved piece left = (number ≡ moved) × (0 < length piece)
-EndsBy Limit moved piece left = (moved ≡ LIMIT) × (0 < length piece)
-EndsBy NoMemory moved piece left = moved < LIMIT
+EndsBy Limit moved piece left = (moved ≡ relay_max) × (0 < length piece)
+EndsBy NoMemory moved piece left = moved < relay_max
 
 -- what came to the sink is a front of what was taken from the source: pieces put whole, and then a front of the last one
 pub record Relayed (left left' written written' : Option (List ℕ)) (ending : RelayEnd) : Type 0 where
@@ -45,8 +52,8 @@ pub record Relayed (left left' written written' : Option (List ℕ)) (ending : R
   pub taken : left ≡ prepend_known (whole ++ piece) left'
   pub put : written' ≡ append_known written (whole ++ take count piece)
   pub within : count ≤ length piece
-  pub small : length piece ≤ PIECE
-  pub limited : length whole + count ≤ LIMIT
+  pub small : length piece ≤ piece_max
+  pub limited : length whole + count ≤ relay_max
   pub ends : EndsBy ending (length whole) piece left'
 
 -- all that was taken was put: so many bytes
@@ -61,6 +68,6 @@ pub record Stopped (left left' written written' : Option (List ℕ)) (moved : �
   pub piece : List ℕ
   pub taken : left ≡ prepend_known piece left'
   pub put : WroteFront written written' piece
-  pub small : length piece ≤ PIECE
-  pub limited : moved + put.count ≤ LIMIT
+  pub small : length piece ≤ piece_max
+  pub limited : moved + put.count ≤ relay_max
   pub ends : EndsBy ending moved piece left'

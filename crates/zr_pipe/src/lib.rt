@@ -3,8 +3,10 @@
 
 mod ends;
 mod mem_sink;
+mod mem_source;
 mod pieces;
 
 pub use ends::{Failed, PutFault, Sink, Source};
 pub use mem_sink::MemSink;
+pub use mem_source::MemSource;
 pub use pieces::{LIMIT, PIECE, RelayEnd, relay};

@@ -1,5 +1,5 @@
 ghost use Rattle.std.specs.Prelude.{◌≡◌, ℕ, ◌+◌, ◌<◌, ◌≤◌, false, List, Option, length, OnOk, IfOk, IfErr};
-ghost use Rattle.zr_pipe.specs.Relay.{CountsFault, Carried, Relayed, Stopped, is_read_fault, is_write_fault};
+ghost use Rattle.zr_pipe.specs.Relay.{CountsFault, Carried, Relayed, Stopped, is_read_fault, is_write_fault, piece_max, relay_max};
 
 use crate::ends::{PutFault, Sink, Source};
 use std::alloc::Global;
@@ -38,7 +38,7 @@ pub fn relay<F: Source, T: Sink>(alloc: Global, from: &mut F, to: &mut T) -> Rel
 }
 
 fn relay_through<F: Source, T: Sink>(buffer: &mut [u8], from: &mut F, to: &mut T) -> RelayEnd
-    requires { length buffer.old ≡ PIECE }
+    requires { length buffer.old ≡ piece_max }
     ensures relayed { Relayed (F.left from.old) (F.left from.new) (T.written to.old) (T.written to.new) result }
     ensures source_counts { CountsFault (is_read_fault result) (F.faults from.old) (F.faults from.new) }
     ensures sink_counts { CountsFault (is_write_fault result) (T.faults to.old) (T.faults to.new) }
@@ -62,11 +62,11 @@ fn move_piece<F: Source, T: Sink>(
     moved: u64,
 ) -> Result<u64, RelayEnd>
     requires some { 0 < length buffer.old }
-    requires small { length buffer.old ≤ PIECE }
-    requires limited { moved + length buffer.old ≤ LIMIT }
+    requires small { length buffer.old ≤ piece_max }
+    requires limited { moved + length buffer.old ≤ relay_max }
     ensures carried { IfOk result (Carried (F.left from.old) (F.left from.new) (T.written to.old) (T.written to.new)) }
     ensures some { IfOk result (λ count. 0 < count) }
-    ensures limited { IfOk result (λ count. moved + count ≤ LIMIT) }
+    ensures limited { IfOk result (λ count. moved + count ≤ relay_max) }
     ensures source_keeps { OnOk result (F.faults from.new ≡ F.faults from.old) }
     ensures sink_keeps { OnOk result (T.faults to.new ≡ T.faults to.old) }
     ensures stopped { IfErr result (Stopped (F.left from.old) (F.left from.new) (T.written to.old) (T.written to.new) moved) }
@@ -88,8 +88,8 @@ fn move_piece<F: Source, T: Sink>(
 // How a relay ends that moved as much as it may: whole only where the source has no more.
 fn end_at_limit<F: Source>(buffer: &mut [u8], from: &mut F) -> RelayEnd
     requires some { 0 < length buffer.old }
-    requires small { length buffer.old ≤ PIECE }
-    ensures stopped { (written : Option (List ℕ)) → Stopped (F.left from.old) (F.left from.new) written written LIMIT result }
+    requires small { length buffer.old ≤ piece_max }
+    ensures stopped { (written : Option (List ℕ)) → Stopped (F.left from.old) (F.left from.new) written written relay_max result }
     ensures source_counts { CountsFault (is_read_fault result) (F.faults from.old) (F.faults from.new) }
     ensures sink_held { is_write_fault result ≡ false }
 {

@@ -1,5 +1,5 @@
 use Rattle.std.proofs.Common.{◌≡◌, ◌∙◌, arith}
-use Rattle.zr_pipe.specs.declared.pieces.TheConstants.{LIMIT}
+use Rattle.zr_pipe.specs.Relay.{relay_max}
 use Rattle.zr_pipe.proofs.RelayLemmas.{carried_more, relayed_stopped}
 use Rattle.zr_pipe.proofs.pieces.relay_through.Goals as goal
 
@@ -16,5 +16,5 @@ returns-in-Err-clause-relayed g c = relayed_stopped _ _ _ _ _ _ _ _ c.loop-moved
 
 pub returns-clause-relayed : goal.returns-clause-relayed
 returns-clause-relayed g c =
-    let full : c.loop-moved.moved ≡ LIMIT = omega (arith, c.loop-moved-test.false, c.loop-moved.invariant.limited) in
+    let full : c.loop-moved.moved ≡ relay_max = omega (arith, c.loop-moved-test.false, c.loop-moved.invariant.limited) in
     relayed_stopped _ _ _ _ _ _ _ _ (rw full at c.loop-moved.invariant.carried) (c.end_at_limit.ensures.stopped _)
