@@ -10,3 +10,6 @@ pub use ends::{Failed, PutFault, Sink, Source};
 pub use mem_sink::MemSink;
 pub use mem_source::MemSource;
 pub use pieces::{LIMIT, PIECE, RelayEnd, relay};
+
+#[cfg(test)]
+mod tests;

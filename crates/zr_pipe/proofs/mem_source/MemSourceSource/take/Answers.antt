@@ -19,4 +19,4 @@ takes_front bytes front behind at count room least copied =
 pub returns-clause-taken : goal.returns-clause-taken
 returns-clause-taken c =
     rw (← c.self.view_is) (takes_front c.self.inside.bytes.items c.copy_from_slice.new.self _ c.self.inside.taken c.min-count.result _
-        (rw c.deref-2.ensures.value at c.min-count.ensures) (rw c.deref-2.ensures.value at c.copy_from_slice.ensures.after))
+    (rw c.deref-2.ensures.value at c.min-count.ensures) (rw c.deref-2.ensures.value at c.copy_from_slice.ensures.after))
