@@ -1,11 +1,11 @@
 -- A relay between two pieces, and how it ends.
-use Rattle.std.proofs.Common.{◌≡◌, ℕ, ◌+◌, ◌<◌, ◌≤◌, ◌↔◌, Bool, true, false, List, [], ◌∷◌, ◌++◌, length, take, Option, None, Some, refl, sym, ap, ◌∙◌, subst, arith, length-append}
+use Rattle.std.proofs.Common.{◌≡◌, ℕ, ◌+◌, ◌≤◌, List, [], ◌++◌, length, take, Option, None, Some, refl, sym, ap, ◌∙◌, subst, arith, length-append}
 use Rattle.std.proofs.lemmas.List.{length-take-le}
 use Rattle.std.specs.Io.KnownBytes.{append_known, prepend_known, IsAtEnd}
 use Rattle.zr_pipe.specs.declared.pieces.RelayEnd.{RelayEnd}
 use Rattle.zr_pipe.specs.declared.pieces.RelayEnd.TheVariants.{Whole, ReadFault, Limit, NoMemory}
 use Rattle.zr_pipe.specs.Ends.{IsNoneAtEnd, WroteFront}
-use Rattle.zr_pipe.specs.Relay.{piece_max, relay_max, EndsBy, Relayed, Carried, Stopped, CountsFault}
+use Rattle.zr_pipe.specs.Relay.{piece_max, relay_max, EndsBy, Relayed, Carried, Stopped}
 use Rattle.zr_pipe.proofs.EndsLemmas.{append_known-append, append_known-nil, prepend_known-append, prepend_known-nil}
 
 -- nothing was moved yet

@@ -1,4 +1,4 @@
-use Rattle.std.proofs.Common.{refl, arith}
+use Rattle.std.proofs.Common.{arith}
 use Rattle.zr_pipe.specs.Relay.{relay_max}
 use Rattle.zr_pipe.proofs.RelayLemmas.{stopped_whole, stopped_read_fault, stopped_limit}
 use Rattle.zr_pipe.proofs.pieces.end_at_limit.Goals as goal
