@@ -7,7 +7,7 @@ use std::alloc::Global;
 /// The most bytes that are moved at once.
 pub const PIECE: usize = 65_536;
 
-/// The most bytes that one relay moves.
+/// The most bytes that one relay puts.
 pub const LIMIT: u64 = 1 << 62;
 
 /// How a relay ended. The numbers count the bytes of the pieces that were put whole.
@@ -25,7 +25,8 @@ pub enum RelayEnd {
     NoMemory,
 }
 
-/// Moves the bytes of `from` to `to`, piece by piece through one buffer, until the source ends or either fails.
+/// Moves the bytes of `from` to `to`, piece by piece, until the source ends or either fails.
+/// One buffer of `PIECE` bytes serves the whole relay: the source fills it, and the sink is lent what stands in it.
 pub fn relay<F: Source, T: Sink>(alloc: Global, from: &mut F, to: &mut T) -> RelayEnd
     ensures relayed { Relayed (F.left from.old) (F.left from.new) (T.written to.old) (T.written to.new) result }
     ensures source_counts { CountsFault (is_read_fault result) (F.faults from.old) (F.faults from.new) }
