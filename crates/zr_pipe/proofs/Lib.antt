@@ -1,0 +1,3 @@
+pub mod EndsLemmas
+pub mod RelayLemmas
+pub mod Told
