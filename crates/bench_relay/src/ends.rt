@@ -1,6 +1,7 @@
 ghost use Rattle.std.specs.Prelude.{◌≡◌, ◌≤◌, None};
 
 use std::alloc::{AllocError, Global};
+use std::io::{Read, Write};
 use zr_pipe::{Failed, PutFault, Sink, Source};
 
 const BLOCK: usize = 1 << 20;
@@ -63,5 +64,63 @@ impl Sink for Discard {
             self.seen = self.seen.wrapping_add(u64::from(*last));
         }
         Ok(())
+    }
+}
+
+/// What a reader gives, with a count of the reads that failed.
+#[derive(Drop)]
+pub struct Input<R> {
+    reader: R,
+    faults: u64,
+}
+
+impl<R: Read> Input<R> {
+    pub fn new(reader: R) -> Input<R> {
+        Input { reader, faults: 0 }
+    }
+}
+
+impl<R: Read> Source for Input<R> {
+    ghost faults = { λ s. s.faults };
+
+    ghost left = { λ _. None };
+
+    fn take(&mut self, buf: &mut [u8]) -> Result<usize, Failed> {
+        match self.reader.read(buf) {
+            Ok(count) => Ok(count),
+            Err(_) => {
+                self.faults = self.faults.saturating_add(1);
+                Err(Failed)
+            }
+        }
+    }
+}
+
+/// A writer as a sink, with a count of the writes that failed.
+#[derive(Drop)]
+pub struct Output<W> {
+    writer: W,
+    faults: u64,
+}
+
+impl<W: Write> Output<W> {
+    pub fn new(writer: W) -> Output<W> {
+        Output { writer, faults: 0 }
+    }
+}
+
+impl<W: Write> Sink for Output<W> {
+    ghost faults = { λ s. s.faults };
+
+    ghost written = { λ _. None };
+
+    fn put(&mut self, bytes: &[u8]) -> Result<(), PutFault> {
+        match self.writer.write_all(bytes) {
+            Ok(()) => Ok(()),
+            Err(_) => {
+                self.faults = self.faults.saturating_add(1);
+                Err(PutFault::Failed)
+            }
+        }
     }
 }

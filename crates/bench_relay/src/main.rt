@@ -1,14 +1,14 @@
-// Relays as many bytes as standard input says from a source in memory to a sink that discards them: what bench/relay.sh times.
+// What bench/relay.sh times. With no word it relays, for each line of standard input, as many bytes as the line says
+// from memory to a sink that discards them; with the word `pipe` it relays standard input to standard output.
 #![tactic(auto)]
 
 mod ends;
 
-use ends::{Discard, Repeated};
-use std::error::Error;
-use std::io;
+use ends::{Discard, Input, Output, Repeated};
+use std::{env, io};
 use zr_pipe::relay;
 
-fn main(rt: HostRuntime) -> io::Result<()> {
+fn relay_memory(rt: &HostRuntime) -> io::Result<()> {
     let alloc = rt.alloc();
     for line in rt.lines(alloc) {
         let Ok(length) = line?.as_str().parse::<u64>() else {
@@ -22,4 +22,15 @@ fn main(rt: HostRuntime) -> io::Result<()> {
         println!(rt; "{end:?}, last bytes of the pieces {seen}")?;
     }
     Ok(())
+}
+
+fn main(rt: HostRuntime) -> io::Result<()> {
+    let pipe = env::args(&rt)?.any(|word| word.as_str() == "pipe");
+    if !pipe {
+        return relay_memory(&rt);
+    }
+    let mut from = Input::new(rt.stdin());
+    let mut to = Output::new(rt.stdout());
+    let end = relay(rt.alloc(), &mut from, &mut to);
+    eprintln!(rt; "{end:?}")
 }
