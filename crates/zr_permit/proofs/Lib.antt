@@ -3,3 +3,4 @@ pub mod Recording
 pub mod Ending
 pub mod Dooming
 pub mod Listing
+pub mod Running

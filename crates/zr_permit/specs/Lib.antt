@@ -1,6 +1,7 @@
 pub mod Jobs
 pub mod Keep
 pub mod Result
+pub mod Runs
 pub mod Seen
 pub mod Transcript
 pub mod Turned

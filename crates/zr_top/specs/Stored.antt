@@ -1,0 +1,11 @@
+use Rattle.std.specs.Prelude.{ℕ, Bool, List, Option, find, nat_eq, option_map}
+use Rattle.std.specs.Cmp.Lexicographic.{pointwise}
+use Rattle.zr_top.specs.declared.files.StoredFile.{StoredFile}
+
+-- the file has this path
+abbrev pub is_stored_at : List ℕ → StoredFile → Bool
+is_stored_at path file = pointwise nat_eq file.path path
+
+-- the bytes of the file at a path
+abbrev pub content_of : List StoredFile → List ℕ → Option (List ℕ)
+content_of files path = option_map (λ (file : StoredFile). file.bytes) (find (is_stored_at path) files)

@@ -1,0 +1,135 @@
+ghost use Rattle.std.specs.Prelude.{◌≡◌, ◌≢◌, ◌≤◌, ◌+◌, ℕ, List, Option, Some, IfOk, find, take};
+ghost use Rattle.std.specs.Option.{option_copied};
+ghost use Rattle.zr_names.specs.Count.{Rose};
+ghost use Rattle.zr_top.specs.Stored.{is_stored_at};
+
+use std::alloc::{AllocError, Global};
+use zr_names::Bytes;
+
+/// Why a file gave no bytes.
+#[derive(Clone, Copy, Debug, PartialEq, Eq)]
+pub enum ReadFault {
+    Failed,
+    NoMemory,
+}
+
+/// Reads whole files.
+pub trait Files {
+    /// How many reads failed; it stays at `u64::MAX` once there.
+    ghost faults: { Self → ℕ };
+
+    /// The path that could not be read last.
+    ghost failed: { Self → Option (List ℕ) };
+
+    /// The bytes of the file at a path, where they are told and the file is there.
+    ghost content: { Self → List ℕ → Option (List ℕ) };
+
+    /// The whole file, or its first `limit + 1` bytes.
+    fn read(&mut self, path: &str, limit: usize) -> Result<Vec<u8>, ReadFault>
+        ensures bytes { IfOk result (λ bytes. (whole : List ℕ) →
+            content self.old path.now ≡ Some whole → bytes.items ≡ take (limit + 1) whole) }
+        ensures content { (other : List ℕ) → content self.new other ≡ content self.old other }
+        ensures failed_rose { result ≡ Err ReadFault.Failed → Rose (faults self.old) (faults self.new) }
+        ensures failed_path { result ≡ Err ReadFault.Failed → failed self.new ≡ Some path.now }
+        ensures later { faults self.old ≤ faults self.new }
+        ensures kept_count { result ≢ Err ReadFault.Failed → faults self.new ≡ faults self.old }
+        ensures kept_path { result ≢ Err ReadFault.Failed → failed self.new ≡ failed self.old };
+}
+
+/// A file of `MemFiles`.
+#[derive(Debug, Drop)]
+pub struct StoredFile {
+    pub path: Bytes,
+    pub bytes: Bytes,
+}
+
+impl StoredFile {
+    pub fn new(alloc: Global, path: &str, bytes: &[u8]) -> Result<StoredFile, AllocError>
+        ensures { IfOk result (λ file. (file.path ≡ path.now) × (file.bytes ≡ bytes.now)) }
+    {
+        Ok(StoredFile {
+            path: Bytes::from_slice(alloc, path.as_bytes())?,
+            bytes: Bytes::from_slice(alloc, bytes)?,
+        })
+    }
+}
+
+/// Files in memory.
+#[derive(Drop)]
+pub struct MemFiles {
+    alloc: Global,
+    files: Vec<StoredFile>,
+    failing: Vec<u64>,
+    calls: u64,
+    faults: u64,
+    failed: Option<Bytes>,
+}
+
+impl MemFiles {
+    /// Files whose n-th read, counted from 1, fails where `failing` names n, and so does that of a file
+    /// that is not there.
+    pub fn new(alloc: Global, files: Vec<StoredFile>, failing: Vec<u64>) -> MemFiles {
+        MemFiles {
+            alloc,
+            files,
+            failing,
+            calls: 0,
+            faults: 0,
+            failed: None,
+        }
+    }
+
+    /// The path that could not be read last.
+    pub fn failed(&self) -> Option<&Bytes> {
+        self.failed.as_ref()
+    }
+}
+
+/// The file at this path.
+fn stored<'a>(files: &'a [StoredFile], path: &str) -> Option<&'a StoredFile>
+    ensures { option_copied result ≡ find (is_stored_at path.now) files.now }
+{
+    files
+        .iter()
+        .find(|file| file.path.as_slice() == path.as_bytes())
+}
+
+/// The first bytes of a file.
+fn front(alloc: Global, bytes: &[u8], limit: usize) -> Result<Vec<u8>, AllocError>
+    ensures { IfOk result (λ front. front.items ≡ take (limit + 1) bytes.now) }
+{
+    if limit < bytes.len() {
+        Vec::from_slice(alloc, &bytes[..limit + 1])
+    } else {
+        Vec::from_slice(alloc, bytes)
+    }
+}
+
+impl Files for MemFiles {
+    ghost use Rattle.zr_top.specs.Stored.{content_of};
+
+    ghost faults = { λ m. m.faults };
+
+    ghost failed = { λ m. m.failed };
+
+    ghost content = { λ m path. content_of m.files.items path };
+
+    fn read(&mut self, path: &str, limit: usize) -> Result<Vec<u8>, ReadFault> {
+        self.calls = self.calls.saturating_add(1);
+        let fails = self.failing.contains(&self.calls);
+        match stored(self.files.as_slice(), path) {
+            Some(file) if !fails => match front(self.alloc, file.bytes.as_slice(), limit) {
+                Ok(bytes) => Ok(bytes),
+                Err(_) => Err(ReadFault::NoMemory),
+            },
+            _ => match Bytes::from_slice(self.alloc, path.as_bytes()) {
+                Ok(path) => {
+                    self.failed = Some(path);
+                    self.faults = self.faults.saturating_add(1);
+                    Err(ReadFault::Failed)
+                }
+                Err(_) => Err(ReadFault::NoMemory),
+            },
+        }
+    }
+}

@@ -1,0 +1,12 @@
+//! The calls that the program makes: a command line from its words to the printed lines and the status.
+#![tactic(auto)]
+
+pub use clock::{Clock, MemClock};
+pub use files::{Files, MemFiles, ReadFault, StoredFile};
+pub use report::totals_line;
+
+pub mod clock;
+pub mod files;
+pub mod report;
+pub mod running;
+pub mod words;
