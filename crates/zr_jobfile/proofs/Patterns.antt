@@ -1,6 +1,5 @@
-use Rattle.std.proofs.Common.{◌≡◌, ◌≢◌, ◌∙◌, ℕ, ◌+◌, ◌-◌, ◌<◌, ◌≤◌, Bool, true, false, List, [], ◌∷◌, ◌++◌, Result, Ok, Err, ap, refl, sym, subst, arith, length, length-append, slice_index, get_or}
+use Rattle.std.proofs.Common.{◌≡◌, ◌∙◌, ℕ, ◌<◌, Bool, true, false, List, [], ◌∷◌, ◌++◌, Err, refl, sym, subst, arith, length, length-append, slice_index}
 use Rattle.std.proofs.Math.Seq.{get_or-append_seam}
-
 use Rattle.std.proofs.lemmas.List.{append_cancel_right}
 use Rattle.zr_names.specs.Names.{IsName, path_is_bad}
 use Rattle.zr_names.specs.declared.names.TheConstants.{PATH_LIMIT}

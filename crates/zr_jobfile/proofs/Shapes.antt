@@ -1,6 +1,6 @@
 use Rattle.std.proofs.Common.{◌≡◌, ◌≢◌, ◌<◌, ◌≤◌, ℕ, List, [], ◌∷◌, Option, Some, None, IfNone, codes, length, refl, sym, ◌∙◌}
 use Rattle.std.specs.Option.{MatchOption}
-use Rattle.toml.specs.Data.{Data, item, no_items, Members, member, no_members, string, table}
+use Rattle.toml.specs.Data.{Data, item, no_items, Members, member, string, table}
 use Rattle.toml.specs.View.{items_view}
 use Rattle.toml.specs.declared.value.Value.{Value}
 use Rattle.zr_jobfile.specs.SnapFile.{filter_tree, job_end, job_tree, one_job_file, pruning_tree, snap_file}

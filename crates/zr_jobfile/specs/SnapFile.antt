@@ -1,9 +1,8 @@
-use Rattle.std.specs.Prelude.{⊤, ◌≡◌, ℕ, ◌+◌, ◌<◌, ◌≤◌, Bool, true, false, codes, List, [], ◌∷◌, ◌++◌, if◌then◌else◌, Option, Some, None, Result, Ok, Err, length, pos, IsUtf8}
-use Rattle.toml.specs.Data.{Data, string, integer, boolean, array, table, Items, no_items, item, Members, no_members, member}
+use Rattle.std.specs.Prelude.{⊤, ◌≡◌, ℕ, ◌<◌, ◌≤◌, Bool, true, codes, List, [], ◌∷◌, ◌++◌, if◌then◌else◌, Some, None, Result, Ok, Err, length, pos, IsUtf8}
+use Rattle.toml.specs.Data.{Data, string, integer, boolean, array, table, no_items, item, Members, no_members, member}
 use Rattle.toml.specs.Parse.{parse_document}
 use Rattle.zr_names.specs.declared.names.TheConstants.{JOB_LIMIT, PATH_LIMIT}
 use Rattle.zr_names.specs.Names.{IsName, name_is_bad, path_is_bad}
-use Rattle.zr_permit.specs.declared.job.Job.{Job}
 use Rattle.zr_permit.specs.declared.job.JobSet.{JobSet}
 use Rattle.zr_permit.specs.declared.job.Pattern.{Pattern}
 use Rattle.zr_permit.specs.declared.job.RuleSpec.TheVariants.{LastN}

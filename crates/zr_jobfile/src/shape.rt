@@ -1,6 +1,5 @@
 //! The shape of a job file's tree, table by table.
 ghost use Rattle.std.specs.Prelude.{◌≡◌, ◌≢◌, ◌↔◌, ◌<◌, ◌≤◌, ℕ, List, IsTrue, codes, IfSome, IfNone, option_map, pos};
-
 ghost use Rattle.toml.specs.Data.{
   as_table,
   boolean,

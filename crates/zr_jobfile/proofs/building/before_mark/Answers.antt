@@ -1,4 +1,4 @@
-use Rattle.std.proofs.Common.{rules, ◌≡◌, ◌≢◌, [], ◌∷◌, ◌++◌, List, ℕ, arith, Bor}
+use Rattle.std.proofs.Common.{◌≡◌, ◌≢◌, [], ◌∷◌, ◌++◌, List, ℕ, arith, Bor}
 use Rattle.std.proofs.lemmas.Str.Pattern.{strip_suffix_char}
 use Rattle.zr_jobfile.proofs.Shapes.{half_none}
 use Rattle.zr_jobfile.proofs.building.before_mark.Goals as goal

@@ -1,7 +1,5 @@
-use Rattle.std.proofs.Common.{rules, ◌≡◌, Result, Err, subst, sym}
-use Rattle.zr_names.specs.declared.names.TheConstants.{PATH_LIMIT}
-use Rattle.zr_names.specs.Names.{path_is_bad}
-use Rattle.zr_jobfile.specs.SnapFile.{Names, Patterns}
+use Rattle.std.proofs.Common.{rules, ◌≡◌, Err, subst, sym}
+use Rattle.zr_jobfile.specs.SnapFile.{Patterns}
 use Rattle.zr_jobfile.proofs.Patterns.{marked_refused}
 use Rattle.zr_jobfile.proofs.building.pattern.Goals as goal
 

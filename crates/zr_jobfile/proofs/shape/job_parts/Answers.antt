@@ -1,5 +1,5 @@
-use Rattle.std.proofs.Common.{rules, ◌≡◌, codes, List, ℕ, [], ◌∷◌}
-use Rattle.toml.specs.Data.{member, string, table}
+use Rattle.std.proofs.Common.{rules, ◌≡◌}
+use Rattle.toml.specs.Data.{string, table}
 use Rattle.toml.specs.View.{members_view, view}
 use Rattle.zr_jobfile.specs.SnapFile.{filter_tree}
 use Rattle.zr_jobfile.proofs.Shapes.{if_none, IsNoJob, no_pruning}
