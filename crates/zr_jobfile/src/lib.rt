@@ -42,3 +42,6 @@ pub fn read_jobs(alloc: Global, bytes: &[u8]) -> Result<JobSet, JobFault>
         }),
     }
 }
+
+#[cfg(test)]
+mod tests;
