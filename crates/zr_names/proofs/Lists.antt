@@ -24,6 +24,6 @@ pub found_from_All : {X : Type 0} (P : X → Type 0) (p : X → Bool) (xs : List
 found_from_All P p [] x found each = cc
 found_from_All {X} P p (y ∷ ys) x found each =
     choose (p y) found (All-head P y ys each) (λ rest. found_from_All P p ys x rest (All-tail P y ys each)) where
-  choose : (b : Bool) → cond b (Some y) (find p ys) ≡ Some x → P y → (find p ys ≡ Some x → P x) → P x
-  choose true e py other = let same : y ≡ x = cc in subst P same py
-  choose false e py other = other e
+      choose : (b : Bool) → cond b (Some y) (find p ys) ≡ Some x → P y → (find p ys ≡ Some x → P x) → P x
+      choose true e py other = let same : y ≡ x = cc in subst P same py
+      choose false e py other = other e

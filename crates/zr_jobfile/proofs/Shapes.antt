@@ -1,0 +1,57 @@
+use Rattle.std.proofs.Common.{◌≡◌, ◌≢◌, ◌<◌, ◌≤◌, ℕ, List, [], ◌∷◌, Option, Some, None, IfNone, codes, length, refl, sym, ◌∙◌}
+use Rattle.std.specs.Option.{MatchOption}
+use Rattle.toml.specs.Data.{Data, item, no_items, Members, member, string, table}
+use Rattle.toml.specs.View.{items_view}
+use Rattle.toml.specs.declared.value.Value.{Value}
+use Rattle.zr_jobfile.specs.SnapFile.{filter_tree, job_end, job_tree, one_job_file, pruning_tree, snap_file}
+
+pub if_none : {T : Type 0} (o : Option T) (P : Type 0) → P → IfNone o P
+if_none None P p = p
+if_none (Some x) P p = tt
+
+-- the half of a fact by cases that stands where there is no value
+pub half_none : {T : Type 0} (o : Option T) (P : Type 0) (Q : T → Type 0) → MatchOption o P Q → IfNone o P
+half_none None P Q h = h
+half_none (Some x) P Q h = tt
+
+pub one_item : (values : List Value) (inner : Data) → items_view values ≡ item inner no_items → length values ≡ 1
+one_item [] inner e = cc
+one_item (v ∷ []) inner e = refl
+one_item (v ∷ w ∷ values) inner e = cc
+
+-- no job has this value, whatever stands in its three parts
+abbrev pub IsNoJob : Data → Type 0
+IsNoJob value = (name pattern : List ℕ) (count : ℕ) → 0 < count → count ≤ 4294967295 → value ≢ job_tree name pattern count
+
+abbrev pub IsNoFile : Members → Type 0
+IsNoFile tree = (name pattern : List ℕ) (count : ℕ) → 0 < count → count ≤ 4294967295 → tree ≢ snap_file name pattern count
+
+same_job : (job other : Data) → one_job_file job ≡ one_job_file other → job ≡ other
+same_job job other e = cc
+
+pub no_file : (tree : Members) (job : Data) → tree ≡ one_job_file job → IsNoJob job → IsNoFile tree
+no_file tree job are none name pattern count some fits e =
+    none name pattern count some fits (same_job job (job_tree name pattern count) (sym are ∙ e))
+
+pub no_file_where : {T : Type 0} (o : Option T) (tree : Members) (job : Data) → tree ≡ one_job_file job → IfNone o (IsNoJob job) → IfNone o (IsNoFile tree)
+no_file_where None tree job are none = no_file tree job are none
+no_file_where (Some x) tree job are none = tt
+
+rest_of_filter : (front other : Data) (rest more : Members) → member (codes "filesystems") front rest ≡ member (codes "filesystems") other more → rest ≡ more
+rest_of_filter front other rest more e = cc
+
+rest_of_name : (front other : Data) (rest more : Members) → member (codes "name") front rest ≡ member (codes "name") other more → rest ≡ more
+rest_of_name front other rest more e = cc
+
+table_members : (inside other : Members) → table inside ≡ table other → inside ≡ other
+table_members inside other e = cc
+
+-- a value that goes on, after its filter and its name, with no pruning of a job is no job
+pub no_pruning : (value filter name : Data) (members named pruned : Members) → value ≡ table members → members ≡ member (codes "filesystems") filter named → named ≡ member (codes "name") name pruned → ((count : ℕ) (rest : Members) → 0 < count → count ≤ 4294967295 → pruned ≢ member (codes "pruning") (pruning_tree count) rest) → IsNoJob value
+no_pruning value filter name members named pruned a b d none title pattern count some fits e =
+    let third : Members = member (codes "pruning") (pruning_tree count) job_end in
+    let second : Members = member (codes "name") (string title) third in
+    let whole = table_members members (member (codes "filesystems") (filter_tree pattern) second) (sym a ∙ e) in
+    let one = rest_of_filter filter (filter_tree pattern) named second (sym b ∙ whole) in
+    let two = rest_of_name name (string title) pruned third (sym d ∙ one) in
+    none count job_end some fits two
