@@ -7,6 +7,7 @@ pub use report::totals_line;
 
 pub mod clock;
 pub mod files;
+pub mod once;
 pub mod report;
 pub mod running;
 pub mod words;

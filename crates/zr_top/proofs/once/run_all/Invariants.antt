@@ -1,0 +1,12 @@
+use Rattle.std.proofs.Common.{◌≤◌}
+use Rattle.std.specs.List.{All}
+use Rattle.std.specs.Vec.Iter.{into_iter_items}
+use Rattle.zr_top.specs.Units.{IsPruning}
+use Rattle.zr_top.proofs.once.run_all.Given as goal
+
+-- the units that are left prune datasets of these jobs
+abbrev pub invariant-loop-unit : goal.invariant-loop-unit
+invariant-loop-unit g l = record {
+  left : All (IsPruning l.jobs) (into_iter_items l.unit-iterator);
+  later : g.Z.Zfs.faults l.fn.z ≤ g.Z.Zfs.faults l.z;
+}

@@ -1,0 +1,11 @@
+use Rattle.std.proofs.Common.{◌≤◌}
+use Rattle.std.specs.List.{All}
+use Rattle.zr_top.specs.Units.{IsPruning}
+use Rattle.zr_top.proofs.once.scan_all.Given as goal
+
+-- the units that wait prune datasets of these jobs
+abbrev pub invariant-loop-job : goal.invariant-loop-job
+invariant-loop-job g l = record {
+  waiting : All (IsPruning l.jobs) l.waiting.items;
+  later : g.Z.Zfs.faults l.fn.z ≤ g.Z.Zfs.faults l.z;
+}
