@@ -45,38 +45,40 @@ pub record IsSetLine (line : List ℕ) (row : SetRow) : Type 0 where
   pub placeholder : row.placeholder ≡ pointwise nat_eq flag (codes "on")
   pub is_token : IsToken token row.token
 
--- what follows the dataset's path in the full name of a snapshot or a bookmark
-abbrev pub name_text : VersionName → List ℕ
-name_text (Snap name) = 64 ∷ name
-name_text (Mark name) = 35 ∷ name
+-- the text spells the name of a snapshot or a bookmark, without `@` or `#`
+abbrev pub IsBareName : List ℕ → List ℕ → Type 0
+IsBareName text name = (text ≡ name) × IsName name_is_bad NAME_LIMIT name
 
--- the name without `@` or `#`
-abbrev pub bare_name : VersionName → List ℕ
-bare_name (Snap name) = name
-bare_name (Mark name) = name
+-- the text spells what follows the dataset's path in a full name: `@` and a snapshot's name, or `#` and a bookmark's
+abbrev pub IsSuffix : List ℕ → VersionName → Type 0
+IsSuffix text (Snap name) = (text ≡ 64 ∷ name) × IsName name_is_bad NAME_LIMIT name
+IsSuffix text (Mark name) = (text ≡ 35 ∷ name) × IsName name_is_bad NAME_LIMIT name
 
--- the column of the number of holds, which a bookmark has as `-`
-abbrev pub refs_column : VersionName → ℕ → List ℕ
-refs_column (Snap name) refs = decimal refs
-refs_column (Mark name) refs = codes "-"
+-- the column spells the full name of a version of the dataset at this path
+pub record IsVersionName (path : List ℕ) (column : List ℕ) (name : VersionName) : Type 0 where
+  pub suffix : List ℕ
+  pub full : column ≡ path ++ suffix
+  pub is_suffix : IsSuffix suffix name
 
--- a row that a listing of versions can have
-pub record IsVersionRow (row : VersionRow) : Type 0 where
-  pub name : IsName name_is_bad NAME_LIMIT (bare_name row.name)
-  pub guid : row.guid.0 < 2 ^ 64
-  pub txg : row.txg < 2 ^ 64
-  pub creation : row.creation < 2 ^ 64
-  pub refs : row.refs < 2 ^ 64
-  pub mark_refs : is_mark row.name ≡ true → row.refs ≡ 0
+-- the column spells the number: decimal, without leading zeros
+abbrev pub IsNumber : List ℕ → ℕ → Type 0
+IsNumber column n = (column ≡ decimal n) × (n < 2 ^ 64)
 
--- the columns of a row in the listing of the versions of the dataset at this path: the full name, guid, createtxg,
--- creation and userrefs, the numbers in decimal without leading zeros
-abbrev pub version_columns : List ℕ → VersionRow → List (List ℕ)
-version_columns path row =
-    (path ++ name_text row.name) ∷ decimal row.guid.0 ∷ decimal row.txg ∷ decimal row.creation
-    ∷ refs_column row.name row.refs ∷ []
+-- the column spells the number of holds: `-`, which counts as 0, at a bookmark
+abbrev pub IsRefs : VersionName → List ℕ → ℕ → Type 0
+IsRefs (Snap name) column refs = IsNumber column refs
+IsRefs (Mark name) column refs = (column ≡ codes "-") × (refs ≡ 0)
 
--- a line of a listing of versions
-pub record IsVersionLine (path : List ℕ) (line : List ℕ) (row : VersionRow) : Type 0 where
-  pub spelled : columns line ≡ version_columns path row
-  pub valid : IsVersionRow row
+-- a line of a listing of the versions of the dataset at this path: the full name, guid, createtxg, creation, userrefs
+pub record IsVersionLine (asked : List ℕ) (line : List ℕ) (row : VersionRow) : Type 0 where
+  pub name : List ℕ
+  pub guid : List ℕ
+  pub txg : List ℕ
+  pub creation : List ℕ
+  pub refs : List ℕ
+  pub spelled : columns line ≡ name ∷ guid ∷ txg ∷ creation ∷ refs ∷ []
+  pub is_name : IsVersionName asked name row.name
+  pub is_guid : IsNumber guid row.guid.0
+  pub is_txg : IsNumber txg row.txg
+  pub is_creation : IsNumber creation row.creation
+  pub is_refs : IsRefs row.name refs row.refs

@@ -1,4 +1,6 @@
-use Rattle.std.specs.Prelude.{◌≡◌, ◌≢◌, ℕ, ◌+◌, List, [], ◌∷◌, ◌++◌, AllPairs, Any, length}
+use Rattle.std.specs.Prelude.{◌≡◌, ◌≢◌, ℕ, ◌+◌, List, [], ◌∷◌, ◌++◌, AllPairs, Any, length, ⊤}
+use Rattle.zr_listing.specs.declared.faults.ListFault.{ListFault}
+use Rattle.zr_listing.specs.declared.faults.ListFault.TheVariants as fault
 use Rattle.std.specs.List.{AllZip}
 use Rattle.zr_listing.specs.Columns.{parted}
 
@@ -29,3 +31,8 @@ pub record IsFirstBad {Row : Type 0} (spells : List ℕ → Row → Type 0) (nam
   pub differ : NamesDiffer name rows
   pub there : later ≡ [] → line ≢ []
   pub bad : later ≢ [] → (row : Row) → spells line row → Any (λ other. name other ≡ name row) rows
+
+-- what a fault says of the bytes: where memory was refused, nothing
+abbrev pub IsBadAt : {Row : Type 0} → (List ℕ → Row → Type 0) → (Row → List ℕ) → List ℕ → ListFault → Type 0
+IsBadAt spells name bytes (fault.Garbled number) = IsFirstBad spells name bytes number
+IsBadAt spells name bytes fault.NoMemory = ⊤

@@ -63,3 +63,26 @@ pub(crate) fn read_number(text: &[u8]) -> Option<u64>
         Err(_) => None,
     }
 }
+
+/// The columns of a line of versions.
+#[derive(Clone, Copy)]
+pub(crate) struct VersionColumns<'a> {
+    pub(crate) name: &'a [u8],
+    pub(crate) guid: &'a [u8],
+    pub(crate) txg: &'a [u8],
+    pub(crate) creation: &'a [u8],
+    pub(crate) refs: &'a [u8],
+}
+
+/// The five columns of a line.
+#[tactic(auto, using(crate::proofs::Cutting::length_parted))]
+pub(crate) fn version_columns(line: &[u8]) -> Option<VersionColumns<'_>>
+    ensures some { IfSome result (λ c. columns line.now
+        ≡ c.name.now ∷ c.guid.now ∷ c.txg.now ∷ c.creation.now ∷ c.refs.now ∷ []) }
+    ensures none { IfNone result (length (columns line.now) ≢ 5) }
+{
+    let (name, rest) = cut(line, b'\t')?;
+    let (guid, rest) = cut(rest, b'\t')?;
+    let SetColumns { path: txg, flag: creation, token: refs } = set_columns(rest)?;
+    Some(VersionColumns { name, guid, txg, creation, refs })
+}

@@ -5,4 +5,6 @@ pub use faults::ListFault;
 
 mod columns;
 mod faults;
+mod lines;
 mod sets;
+mod versions;
