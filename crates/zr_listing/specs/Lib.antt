@@ -1,3 +1,5 @@
 pub mod Columns
 pub mod Lines
 pub mod Reading
+pub mod Steps
+pub mod Listing

@@ -1,4 +1,4 @@
-ghost use Rattle.std.specs.Prelude.{◌≡◌, ◌≢◌, ◌==◌, ℕ, ◌<◌, ◌^◌, [], ◌∷◌, ◌++◌, IfSome, IfNone, length, position};
+ghost use Rattle.std.specs.Prelude.{◌≡◌, ◌≢◌, ◌==◌, List, ℕ, ◌<◌, ◌^◌, [], ◌∷◌, ◌++◌, IfSome, IfNone, length, position};
 ghost use Rattle.std.specs.Fmt.{decimal};
 ghost use Rattle.zr_listing.specs.Columns.{columns, has_printed_front, parted};
 
@@ -19,6 +19,16 @@ pub(crate) fn cut(text: &[u8], byte: u8) -> Option<(&[u8], &[u8])>
 {
     let place = place_of(text, byte)?;
     Some((&text[..place], &text[place + 1..]))
+}
+
+/// The first column of a line.
+pub(crate) fn first_column(line: &[u8]) -> &[u8]
+    ensures { (others : List (List ℕ)) (column : List ℕ) → columns line.now ≡ column ∷ others → result.now ≡ column }
+{
+    match cut(line, b'\t') {
+        Some((column, _)) => column,
+        None => line,
+    }
 }
 
 /// The columns of a line of datasets.

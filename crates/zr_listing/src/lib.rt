@@ -2,9 +2,10 @@
 #![tactic(auto)]
 
 pub use faults::ListFault;
+pub use sets::read_sets;
 
 mod columns;
-mod faults;
+pub mod faults;
 mod lines;
-mod sets;
+pub mod sets;
 mod versions;

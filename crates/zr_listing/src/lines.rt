@@ -1,5 +1,7 @@
-ghost use Rattle.std.specs.Prelude.{◌≡◌, [], ◌∷◌, ◌++◌, ℕ, List, IfOk, IfErr};
+ghost use Rattle.std.specs.Prelude.{◌≡◌, [], ◌∷◌, ◌++◌, ℕ, List, IfOk, IfErr, IsErrOf};
 ghost use Rattle.zr_listing.specs.Lines.{IsBadAt, Lines, NamesDiffer};
+ghost use Rattle.zr_listing.specs.Steps.{Begins, BeginsBad};
+ghost use Rattle.zr_listing.specs.declared.faults.LineFault.TheVariants.{Bad};
 ghost use Rattle.zr_listing.specs.Reading.{Finds};
 
 use crate::columns::cut;
@@ -24,8 +26,30 @@ pub(crate) trait Kind {
     /// The name in a line that spells a row.
     fn name_in<'a>(&self, line: &'a [u8]) -> &'a [u8]
         ensures { (row : Self.Row) → spells self.now line.now row → result.now ≡ name self.now row };
+}
 
-    ghost one: { (kind : Self) (line : List ℕ) (a b : Self.Row) → spells kind line a → spells kind line b → a ≡ b };
+/// A row, its name, and what follows its line.
+struct FirstRow<'a, R> {
+    row: R,
+    name: &'a [u8],
+    after: &'a [u8],
+}
+
+/// Reads the first line of a text that is not empty.
+fn first_row<'a, K: Kind>(
+    alloc: Global,
+    kind: &K,
+    text: &'a [u8],
+) -> Result<FirstRow<'a, K::Row>, LineFault>
+    ensures row { IfOk result (λ f.
+        Begins (K.spells kind.now) (K.name kind.now) text.now f.row f.name.now f.after.now) }
+    ensures bad { IsErrOf result Bad → BeginsBad (K.spells kind.now) text.now }
+{
+    let Some((line, after)) = cut(text, b'\n') else {
+        return Err(LineFault::Bad);
+    };
+    let row = kind.row(alloc, line)?;
+    Ok(FirstRow { row, name: kind.name_in(line), after })
 }
 
 /// Reads the rows of a listing, a line for each.
@@ -43,20 +67,17 @@ pub(crate) fn read_lines<K: Kind>(
     let mut rest = bytes;
     while !rest.is_empty() {
         let number = rows.len() as u64 + 1;
-        let Some((line, after)) = cut(rest, b'\n') else {
-            return Err(ListFault::Garbled(number));
-        };
-        match kind.row(alloc, line) {
-            Ok(row) => {
-                if !names.insert(kind.name_in(line))? {
+        match first_row(alloc, kind, rest) {
+            Ok(FirstRow { row, name, after }) => {
+                if !names.insert(name)? {
                     return Err(ListFault::Garbled(number));
                 }
                 rows.push(row)?;
+                rest = after;
             }
             Err(LineFault::Bad) => return Err(ListFault::Garbled(number)),
             Err(LineFault::NoMemory) => return Err(ListFault::NoMemory),
         }
-        rest = after;
     }
     Ok(rows)
 }
