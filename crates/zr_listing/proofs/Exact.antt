@@ -1,7 +1,10 @@
-use Rattle.std.proofs.Common.{◌≡◌, ◌≢◌, ℕ, zero, suc, ◌+◌, ◌<◌, ◌≤◌, List, [], ◌∷◌, ◌++◌, length, get_or, refl, arith, ap, ◌∙◌, sym, subst, length-append, Any}
+use Rattle.std.proofs.Common.{◌≡◌, ◌≢◌, ℕ, zero, suc, ◌+◌, ◌<◌, ◌≤◌, List, [], ◌∷◌, ◌++◌, length, get_or, refl, arith, ap, ◌∙◌, sym, subst, length-append, Any, Result, Ok, Err, IfErr}
 use Rattle.std.specs.List.{AllZip}
 use Rattle.std.proofs.lemmas.List.{append_cancel_right, get_or_append_left, get_or_at}
-use Rattle.zr_listing.specs.Lines.{lines_of, NamesDiffer, Lines, IsFirstBad}
+use Rattle.zr_listing.specs.Lines.{lines_of, NamesDiffer, Lines, IsFirstBad, IsBadAt}
+use Rattle.zr_listing.specs.Listing.{IsGarbled}
+use Rattle.zr_listing.specs.declared.faults.ListFault.{ListFault}
+use Rattle.zr_listing.specs.declared.faults.ListFault.TheVariants as fault
 
 zip-one : {Row : Type 0} (spells : List ℕ → Row → Type 0) (one : (line : List ℕ) (a b : Row) → spells line a → spells line b → a ≡ b) (lines : List (List ℕ)) (xs ys : List Row) → AllZip spells lines xs → AllZip spells lines ys → xs ≡ ys
 zip-one spells one [] [] [] p q = refl
@@ -64,3 +67,9 @@ bad-none spells one name bytes number rows b p differ =
     let one_at : get_or whole k x ≡ x = get_or_append_left b.rows (on.row ∷ on.more) x k twice.2 ∙ twice.3 in
     let other_at : get_or whole (length b.rows) x ≡ on.row = get_or_at b.rows on.row on.more x (length b.rows) refl in
     unlike k (length b.rows) x twice.2 (omega (arith, length-append b.rows (on.row ∷ on.more))) (ap name one_at ∙ twice.4 ∙ ap name (sym other_at))
+
+-- what a reader's fault says: no rows
+pub garbled-none : {Row X : Type 0} (spells : List ℕ → Row → Type 0) (one : (line : List ℕ) (a b : Row) → spells line a → spells line b → a ≡ b) (name : Row → List ℕ) (bytes : List ℕ) (r : Result X ListFault) → IfErr r (IsBadAt spells name bytes) → IsGarbled r → (rows : List Row) → Lines spells bytes rows → NamesDiffer name rows → ⊥
+garbled-none spells one name bytes (Ok x) bad garbled rows lines differ = absurd garbled
+garbled-none spells one name bytes (Err (fault.Garbled n)) bad garbled rows lines differ = bad-none spells one name bytes n rows bad lines differ
+garbled-none spells one name bytes (Err fault.NoMemory) bad garbled rows lines differ = absurd garbled

@@ -54,6 +54,11 @@ abbrev pub IsSuffix : List ℕ → VersionName → Type 0
 IsSuffix text (Snap name) = (text ≡ 64 ∷ name) × IsName name_is_bad NAME_LIMIT name
 IsSuffix text (Mark name) = (text ≡ 35 ∷ name) × IsName name_is_bad NAME_LIMIT name
 
+-- the full name of a version of the dataset at this path
+abbrev pub full_name : List ℕ → VersionName → List ℕ
+full_name path (Snap name) = path ++ 64 ∷ name
+full_name path (Mark name) = path ++ 35 ∷ name
+
 -- the column spells the full name of a version of the dataset at this path
 pub record IsVersionName (path : List ℕ) (column : List ℕ) (name : VersionName) : Type 0 where
   pub suffix : List ℕ

@@ -3,3 +3,4 @@ pub mod Lines
 pub mod Reading
 pub mod Steps
 pub mod Listing
+pub mod Order

@@ -1,7 +1,7 @@
 use Rattle.std.specs.Prelude.{◌≡◌, List, ℕ, Result, Ok, Err, IsPermutation, ⊤}
 
-use Rattle.zr_listing.specs.Columns.{IsSetLine, IsVersionLine, name_text}
-use Rattle.zr_listing.specs.Lines.{Lines, NamesDiffer}
+use Rattle.zr_listing.specs.Columns.{IsSetLine, IsVersionLine}
+use Rattle.zr_listing.specs.Lines.{Lines}
 use Rattle.zr_listing.specs.declared.faults.ListFault.{ListFault}
 use Rattle.zr_listing.specs.declared.faults.ListFault.TheVariants as fault
 use Rattle.zr_world.specs.Pools.{IsSetList, IsVersionList}
@@ -18,3 +18,11 @@ IsGarbled (Err fault.NoMemory) = ⊥
 pub record IsSetListing (bytes : List ℕ) (rows : List SetRow) : Type 0 where
   pub lines : Lines IsSetLine bytes rows
   pub paths_differ : IsSetList rows
+
+-- the bytes list these versions of the dataset at this path: a line for each, in whatever order, and the rows stand in
+-- order of txg, then snapshots before bookmarks, then of name, no name twice
+pub record IsVersionListing (path : List ℕ) (bytes : List ℕ) (rows : List VersionRow) : Type 0 where
+  pub listed : List VersionRow
+  pub lines : Lines (IsVersionLine path) bytes listed
+  pub same_rows : IsPermutation listed rows
+  pub in_order : IsVersionList rows

@@ -3,9 +3,10 @@
 
 pub use faults::ListFault;
 pub use sets::read_sets;
+pub use versions::read_versions;
 
 mod columns;
 pub mod faults;
 mod lines;
 pub mod sets;
-mod versions;
+pub mod versions;

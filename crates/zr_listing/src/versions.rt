@@ -1,11 +1,19 @@
-ghost use Rattle.std.specs.Prelude.{◌≡◌, ◌++◌, ℕ, List, IfSome, IfNone};
-ghost use Rattle.zr_listing.specs.Columns.{IsBareName, IsNumber, IsRefs, IsSuffix, IsVersionLine, IsVersionName};
+ghost use Rattle.std.specs.Prelude.{◌≡◌, ◌++◌, ℕ, List, IfSome, IfNone, IfOk, IfErr, OnOk, IsPermutation};
+ghost use Rattle.std.specs.List.Sorted.{IsSortedBy};
+ghost use Rattle.std.specs.Ordering.{is_lt};
+ghost use Rattle.zr_listing.specs.Columns.{full_name, IsBareName, IsNumber, IsRefs, IsSuffix, IsVersionLine, IsVersionName};
+ghost use Rattle.zr_listing.specs.Lines.{IsBadAt};
+ghost use Rattle.zr_listing.specs.Listing.{IsGarbled, IsVersionListing};
+ghost use Rattle.zr_listing.specs.Order.{row_cmp};
 ghost use Rattle.zr_listing.specs.Reading.{Finds};
+ghost use Rattle.zr_world.specs.Pools.{IsVersionList};
 
-use crate::columns::{read_number, version_columns};
-use crate::faults::LineFault;
-use std::alloc::Global;
-use zr_names::{Guid, MarkName, Path, SnapName, read_mark, read_snap};
+use crate::columns::{first_column, read_number, version_columns};
+use crate::faults::{LineFault, ListFault};
+use crate::lines::{Kind, read_lines};
+use std::alloc::{AllocError, Global};
+use std::cmp::Ordering;
+use zr_names::{Guid, MarkName, Path, Rows, SnapName, read_mark, read_snap};
 use zr_world::{VersionName, VersionRow};
 
 /// Reads the name of a snapshot, without the `@`.
@@ -88,4 +96,55 @@ pub(crate) fn version_row(alloc: Global, path: &Path, line: &[u8]) -> Result<Ver
         creation: number_of(columns.creation)?,
         refs,
     })
+}
+
+/// The kind of a listing of the versions of the dataset at this path.
+#[derive(Clone, Copy)]
+struct Versions<'a> {
+    path: &'a Path,
+}
+
+impl<'a> Kind for Versions<'a> {
+    ghost use Rattle.zr_listing.specs.Columns.{full_name, IsVersionLine};
+
+    type Row = VersionRow;
+
+    ghost spells = { λ kind. IsVersionLine kind.path.now };
+
+    ghost name = { λ kind row. full_name kind.path.now row.name };
+
+    fn row(&self, alloc: Global, line: &[u8]) -> Result<VersionRow, LineFault> {
+        version_row(alloc, self.path, line)
+    }
+
+    fn name_in<'b>(&self, line: &'b [u8]) -> &'b [u8] {
+        first_column(line)
+    }
+}
+
+/// The order of two rows: by transaction group, then snapshots before bookmarks, then by name.
+fn compare(a: &VersionRow, b: &VersionRow) -> Ordering
+    ensures { result ≡ row_cmp a.now b.now }
+{
+    a.txg.cmp(&b.txg).then(a.name.cmp(&b.name))
+}
+
+fn sort_rows(rows: &mut Vec<VersionRow>) -> Result<(), AllocError>
+    ensures same_rows { IsPermutation rows.old.items rows.new.items }
+    ensures in_order { OnOk result (IsSortedBy (λ a b. is_lt (row_cmp a b)) rows.new.items) }
+{
+    rows.sort_by(|a, b| compare(a, b))
+}
+
+/// Reads a listing of the snapshots and bookmarks of the dataset at this path (zfs-list(8), with
+/// `-H -p -d 1 -t snapshot,bookmark -o name,guid,createtxg,creation,userrefs`).
+pub fn read_versions(alloc: Global, path: &Path, bytes: &[u8]) -> Result<Rows<VersionRow>, ListFault>
+    ensures rows { IfOk result (IsVersionListing path.now bytes.now) }
+    ensures in_order { IfOk result IsVersionList }
+    ensures garbled { IfErr result (IsBadAt (IsVersionLine path.now) (λ row. full_name path.now row.name) bytes.now) }
+    ensures none { IsGarbled result → (rows : List VersionRow) → IsVersionListing path.now bytes.now rows → ⊥ }
+{
+    let mut rows = read_lines(alloc, &Versions { path }, bytes)?;
+    sort_rows(&mut rows)?;
+    Ok(Rows::from_vec(rows))
 }
