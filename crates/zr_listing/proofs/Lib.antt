@@ -1,0 +1,5 @@
+pub mod Cutting
+pub mod Numbers
+pub mod Rows
+pub mod Reading
+pub mod Exact

@@ -1,0 +1,12 @@
+//! The listings of datasets, and of the snapshots and bookmarks of one dataset, as `zfs list -H -p` prints them.
+#![tactic(auto)]
+
+pub use faults::ListFault;
+pub use sets::read_sets;
+pub use versions::read_versions;
+
+mod columns;
+pub mod faults;
+mod lines;
+pub mod sets;
+pub mod versions;
