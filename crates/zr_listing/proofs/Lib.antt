@@ -3,3 +3,4 @@ pub mod Numbers
 pub mod Rows
 pub mod Reading
 pub mod Exact
+pub mod Sorting
