@@ -4,3 +4,4 @@ pub mod Rows
 pub mod Reading
 pub mod Exact
 pub mod Sorting
+pub mod Printed
