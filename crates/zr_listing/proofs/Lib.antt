@@ -3,3 +3,5 @@ pub mod Numbers
 pub mod Rows
 pub mod Reading
 pub mod Exact
+pub mod Sorting
+pub mod Printed

@@ -11,7 +11,7 @@ use Rattle.zr_world.specs.declared.version.SetRow.{SetRow}
 use Rattle.zr_world.specs.declared.version.VersionName.{VersionName}
 use Rattle.zr_world.specs.declared.version.VersionName.TheVariants.{Snap, Mark}
 use Rattle.zr_world.specs.declared.version.VersionRow.{VersionRow}
-use Rattle.zr_listing.specs.Columns.{columns, IsPath, IsToken, IsSetLine, IsSuffix, IsVersionName, IsNumber, IsRefs, IsVersionLine}
+use Rattle.zr_listing.specs.Columns.{full_name, columns, IsPath, IsToken, IsSetLine, IsSuffix, IsVersionName, IsNumber, IsRefs, IsVersionLine}
 use Rattle.zr_listing.specs.Reading.{Finds}
 use Rattle.zr_listing.specs.declared.faults.LineFault.{LineFault}
 use Rattle.zr_listing.specs.declared.faults.LineFault.TheVariants as fault
@@ -120,3 +120,10 @@ handed-on P Q fault.NoMemory (Err f) finds err more = rw err tt
 pub match-parts : {X : Type 0} (P : Type 0) (Q : X → Type 0) (r : Option X) → MatchOption r P Q → IfSome r Q × IfNone r P
 match-parts P Q None m = (tt, m)
 match-parts P Q (Some x) m = (m, tt)
+
+-- full names of one dataset's versions are the same where the names are
+pub full_name-one : (path : List ℕ) (a b : VersionName) → full_name path a ≡ full_name path b → a ≡ b
+full_name-one path (Snap n) (Snap m) e = ap Snap (tail-same 64 64 n m (append_cancel_left path (64 ∷ n) (64 ∷ m) e))
+full_name-one path (Snap n) (Mark m) e = absurd (at-no-hash (head-same 64 35 n m (append_cancel_left path (64 ∷ n) (35 ∷ m) e)))
+full_name-one path (Mark n) (Snap m) e = absurd (at-no-hash (sym (head-same 35 64 n m (append_cancel_left path (35 ∷ n) (64 ∷ m) e))))
+full_name-one path (Mark n) (Mark m) e = ap Mark (tail-same 35 35 n m (append_cancel_left path (35 ∷ n) (35 ∷ m) e))

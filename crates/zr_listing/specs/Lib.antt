@@ -4,3 +4,4 @@ pub mod Reading
 pub mod Steps
 pub mod Listing
 pub mod Order
+pub mod Printing

@@ -129,11 +129,13 @@ fn compare(a: &VersionRow, b: &VersionRow) -> Ordering
     a.txg.cmp(&b.txg).then(a.name.cmp(&b.name))
 }
 
+/// Sorts rows by `compare`.
 fn sort_rows(rows: &mut Vec<VersionRow>) -> Result<(), AllocError>
     ensures same_rows { IsPermutation rows.old.items rows.new.items }
     ensures in_order { OnOk result (IsSortedBy (λ a b. is_lt (row_cmp a b)) rows.new.items) }
 {
-    rows.sort_by(|a, b| compare(a, b))
+    rows.sort_by(|a, b| compare(a, b))?;
+    Ok(())
 }
 
 /// Reads a listing of the snapshots and bookmarks of the dataset at this path (zfs-list(8), with
