@@ -66,11 +66,11 @@ pub fn print_sets(alloc: Global, rows: &[SetRow]) -> Result<Vec<u8>, NoMemory>
     Ok(out)
 }
 
-fn push_name(out: &mut Vec<u8>, path: &Path, name: &VersionName) -> Result<(), AllocError>
+fn push_name(out: &mut Vec<u8>, path: &[u8], name: &VersionName) -> Result<(), AllocError>
     ensures text { OnOk result (out.new.items ≡ out.old.items ++ full_name path.now name.now) }
     ensures valid { OnOk result (IsName name_is_bad NAME_LIMIT (bare_name name.now)) }
 {
-    out.extend_from_slice(path.as_bytes())?;
+    out.extend_from_slice(path)?;
     match name {
         VersionName::Snap(name) => {
             out.push(b'@')?;
@@ -100,7 +100,7 @@ fn push_refs(
 fn push_version(
     alloc: Global,
     out: &mut Vec<u8>,
-    path: &Path,
+    path: &[u8],
     row: &VersionRow,
 ) -> Result<(), AllocError>
     ensures text { OnOk result (out.new.items ≡ out.old.items ++ ended (version_line path.now row.now)) }
@@ -122,8 +122,9 @@ pub fn print_versions(alloc: Global, path: &Path, rows: &[VersionRow]) -> Result
         IsVersionList rows.now → MarksAreFree rows.now → IsVersionListing path.now text.items rows.now) }
 {
     let mut out = Vec::new(alloc);
+    let dataset = path.as_bytes();
     for row in rows {
-        push_version(alloc, &mut out, path, row)?;
+        push_version(alloc, &mut out, dataset, row)?;
     }
     Ok(out)
 }

@@ -6,6 +6,6 @@ use Rattle.zr_listing.proofs.print.print_versions.Given as goal
 -- the rows so far are printed, and they are valid
 abbrev pub invariant-loop-row : goal.invariant-loop-row
 invariant-loop-row l = record {
-  text : l.out.items ≡ flat_map (λ row. ended (version_line l.path row)) (take l.row-index l.rows);
+  text : l.out.items ≡ flat_map (λ row. ended (version_line l.dataset row)) (take l.row-index l.rows);
   valid : All IsVersionRow (take l.row-index l.rows);
 }
