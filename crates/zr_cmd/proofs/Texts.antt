@@ -1,7 +1,11 @@
-use Rattle.std.proofs.Common.{◌≡◌, ◌≢◌, ◌==◌, ◌&&◌, ◌||◌, ℕ, zero, suc, ◌+◌, ◌<◌, ◌≤◌, Bool, true, false, not, nat_lt, List, [], ◌∷◌, ◌++◌, All, length, get_or, slice_index, refl, arith, ap, ◌∙◌, sym, subst, rules, lit<}
-use Rattle.std.specs.Prelude.{if◌then◌else◌}
+use Rattle.std.proofs.Common.{map, Bor, ◌≡◌, ◌≢◌, ◌==◌, ◌&&◌, ◌||◌, ℕ, zero, suc, ◌+◌, ◌<◌, ◌≤◌, Bool, true, false, not, nat_lt, List, [], ◌∷◌, ◌++◌, All, length, get_or, slice_index, refl, arith, ap, ◌∙◌, sym, subst, rules, lit<}
+use Rattle.std.specs.Prelude.{String, string_bytes, if◌then◌else◌}
 use Rattle.std.specs.List.{AllByRecursion}
-use Rattle.std.specs.Str.{IsUtf8, IsAscii}
+use Rattle.std.specs.Bool.{Decides}
+use Rattle.std.proofs.lemmas.List.{get_or-map}
+use Rattle.std.proofs.lemmas.Slice.Eq.{bytes_eq-Decides}
+use Rattle.zr_cmd.specs.Steps.{texts}
+use Rattle.std.specs.Str.{IsUtf8, IsAscii, bytes_eq}
 use Rattle.std.proofs.lemmas.Bool.Decides.{nat_tests}
 use Rattle.std.proofs.lemmas.Str.{IsUtf8-from_ascii, IsAscii-append}
 use Rattle.zr_names.specs.Names.{IsName, is_alphanumeric, is_name_byte, path_is_bad, name_is_bad, slash_is_bad, begins_component, is_dots}
@@ -62,3 +66,13 @@ utf8_snap path name p q =
     let at : IsAscii (64 ∷ []) = one-ascii in
     IsUtf8-from_ascii ((path ++ 64 ∷ []) ++ name)
       (IsAscii-append (path ++ 64 ∷ []) name (IsAscii-append path (64 ∷ []) (plain-ascii path (path-plain path p)) at) (plain-ascii name (name-plain name q)))
+
+abbrev pub none : Bor (List ℕ)
+none = record { ref_ptr = (0, 0); now = [] }
+
+-- a comparison of two words
+pub word-decides : {Z : Type 0} (words : List (String Z)) (table : List (Bor (List ℕ))) (place : ℕ) (word : String Z) (same : Bool) → place < length words → place < length table → word ≡ get_or words place word → same ≡ bytes_eq (string_bytes word) (get_or table place none).now → Decides same (get_or (texts words) place [] ≡ get_or (map (λ text. text.now) table) place [])
+word-decides words table place word same in_words in_table is e =
+    let one : get_or (texts words) place [] ≡ string_bytes word = get_or-map string_bytes words place word [] in_words ∙ ap string_bytes (sym is) in
+    let two : get_or (map (λ text. text.now) table) place [] ≡ (get_or table place none).now = get_or-map (λ text. text.now) table place none [] in_table in
+    rw (e, one, two) (bytes_eq-Decides (string_bytes word) (get_or table place none).now)

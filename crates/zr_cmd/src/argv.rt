@@ -19,6 +19,17 @@ pub enum ArgvFault {
     NoMemory,
 }
 
+impl From<NoMemory> for ArgvFault {
+    ghost use Rattle.std.specs.Prelude.{◌≡◌};
+    ghost use Rattle.zr_cmd.specs.declared.argv.ArgvFault.TheVariants.{NoMemory};
+
+    ghost from_gives = { λ _ fault. fault ≡ NoMemory };
+
+    fn from(_error: NoMemory) -> ArgvFault {
+        ArgvFault::NoMemory
+    }
+}
+
 pub(crate) const SETS: [&str; 7] = [
     "list",
     "-H",

@@ -2,6 +2,7 @@
 #![tactic(auto)]
 
 pub use argv::{ArgvFault, argv_of};
+pub use reading::read_argv;
 pub use words::Words;
 
 pub mod argv;
