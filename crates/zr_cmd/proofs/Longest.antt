@@ -6,39 +6,46 @@ use Rattle.zr_names.specs.declared.names.TheConstants.{PATH_LIMIT, NAME_LIMIT}
 use Rattle.zr_world.specs.declared.command.Cmd.{Cmd}
 use Rattle.zr_world.specs.declared.command.Cmd.TheVariants as cmd
 use Rattle.zr_cmd.specs.Words.{sets_words, versions_words, words_of, IsNamed, Spells, Begins, IsLongest, IsUnknown, Reads}
-use Rattle.zr_cmd.specs.Steps.{IsCommon, IsFull}
+use Rattle.zr_cmd.specs.Steps.{IsCommon}
 use Rattle.zr_cmd.specs.declared.argv.ArgvFault.{ArgvFault}
 use Rattle.zr_cmd.specs.declared.argv.ArgvFault.TheVariants.{UnknownCommand, BadWord, NoMemory}
 
-sets-length : length sets_words ≡ 7
+pub sets-length : length sets_words ≡ 7
 unfolding sets_words
 sets-length = refl
 
-versions-length : length versions_words ≡ 11
+pub versions-length : length versions_words ≡ 11
 unfolding versions_words
 versions-length = refl
 
-sets-first : take 1 sets_words ≡ codes "list" ∷ []
+pub sets-first : take 1 sets_words ≡ codes "list" ∷ []
 unfolding sets_words
 sets-first = refl
 
-versions-first : take 1 versions_words ≡ codes "list" ∷ []
+pub versions-first : take 1 versions_words ≡ codes "list" ∷ []
 unfolding versions_words
 versions-first = refl
 
-other-words : codes "destroy" ∷ [] ≡ codes "list" ∷ [] → ⊥
+pub other-words : codes "destroy" ∷ [] ≡ codes "list" ∷ [] → ⊥
 other-words e = let lengths : ◌≡◌ {A = ℕ} 7 4 = ap (λ (l : List (List ℕ)). length (get_or l 0 [])) e in omega arith
 
 first-place : (place : ℕ) → place < 1 → path_is_bad (97 ∷ []) place ≡ false
 first-place zero inside = refl
 first-place (suc k) inside = absurd (omega arith)
 
+first-name : (place : ℕ) → place < 1 → name_is_bad (97 ∷ []) place ≡ false
+first-name zero inside = refl
+first-name (suc k) inside = absurd (omega arith)
+
 -- `a` is a path and a name
-a-path : IsName path_is_bad PATH_LIMIT (97 ∷ [])
+pub a-path : IsName path_is_bad PATH_LIMIT (97 ∷ [])
 a-path = record { not_empty = omega arith; not_long = omega arith; no_place_bad = first-place }
 
+pub a-name : IsName name_is_bad NAME_LIMIT (97 ∷ [])
+a-name = record { not_empty = omega arith; not_long = omega arith; no_place_bad = first-name }
+
 -- where a table begins with words
-prefix-of : {X : Type 0} (table words more : List X) (k : ℕ) → table ≡ take k words ++ more → k ≤ length words → (k ≤ length table) × (take k table ≡ take k words)
+pub prefix-of : {X : Type 0} (table words more : List X) (k : ℕ) → table ≡ take k words ++ more → k ≤ length words → (k ≤ length table) × (take k table ≡ take k words)
 prefix-of table words more k is within =
     let count : length (take k words) ≡ k = length-take-le k words within in
     (omega (arith, ap length is, length-append (take k words) more), ap (take k) is ∙ take_at (take k words) more k count)
@@ -63,11 +70,11 @@ pub record Listed (words : List (List ℕ)) (s v : ℕ) : Type 0 where
   pub sets : IsCommon words sets_words s
   pub versions : IsCommon words versions_words v
 
-some-words : {X : Type 0} (words : List X) (x : X) → take 1 words ≡ x ∷ [] → 0 < length words
+pub some-words : {X : Type 0} (words : List X) (x : X) → take 1 words ≡ x ∷ [] → 0 < length words
 some-words [] x e = absurd (let n : ◌≡◌ {A = ℕ} 0 1 = ap length e in omega arith)
 some-words (y ∷ ys) x e = omega arith
 
-take-one : {X : Type 0} (words : List X) (k : ℕ) → 0 < k → take 1 (take k words) ≡ take 1 words
+pub take-one : {X : Type 0} (words : List X) (k : ℕ) → 0 < k → take 1 (take k words) ≡ take 1 words
 take-one words k some = take-take 1 k words (omega arith)
 
 -- a path behind the words of a listing of versions
@@ -145,7 +152,7 @@ spelled-with words s v (cmd.Versions path) l is =
 spelled-with words s v (cmd.DestroySnap path name) l is =
     absurd (other-words (ap (take 1) (sym is.same) ∙ l.first))
 
-known : (words : List (List ℕ)) (word : List ℕ) → take 1 words ≡ word ∷ [] → (word ≡ codes "list") ⊎ (word ≡ codes "destroy") → IsUnknown words → ⊥
+pub known : (words : List (List ℕ)) (word : List ℕ) → take 1 words ≡ word ∷ [] → (word ≡ codes "list") ⊎ (word ≡ codes "destroy") → IsUnknown words → ⊥
 known [] word first is unknown = let some = some-words [] word first in omega arith
 known (w ∷ ws) word first (inl is) unknown = let same : w ≡ word = cc in unknown.0 (same ∙ is)
 known (w ∷ ws) word first (inr is) unknown = let same : w ≡ word = cc in unknown.1 (same ∙ is)

@@ -1,7 +1,9 @@
 ghost use Rattle.std.specs.Prelude.{◌≡◌, ◌∷◌, ◌++◌, IfOk, OnOk};
 ghost use Rattle.std.specs.Str.{IsUtf8};
 ghost use Rattle.std.specs.String.{string_bytes};
-ghost use Rattle.zr_cmd.specs.Words.{sets_words, versions_words, words_of};
+ghost use Rattle.zr_names.specs.Names.{IsName, name_is_bad, path_is_bad};
+ghost use Rattle.zr_names.specs.declared.names.TheConstants.{NAME_LIMIT, PATH_LIMIT};
+ghost use Rattle.zr_cmd.specs.Words.{IsNamed, sets_words, versions_words, words_of};
 
 use crate::words::Words;
 use std::alloc::{AllocError, Global};
@@ -81,14 +83,16 @@ fn word_of(alloc: Global, name: &[u8]) -> Result<String, AllocError>
 
 #[tactic(auto, using(crate::proofs::Texts::utf8_path))]
 fn path_word(alloc: Global, path: &Path) -> Result<String, AllocError>
-    ensures { IfOk result (λ word. string_bytes word ≡ path.now) }
+    ensures word { IfOk result (λ word. string_bytes word ≡ path.now) }
+    ensures named { OnOk result (IsName path_is_bad PATH_LIMIT path.now) }
 {
     word_of(alloc, path.as_bytes())
 }
 
 /// The full name of a snapshot.
 fn snap_word(alloc: Global, path: &Path, name: &SnapName) -> Result<String, AllocError>
-    ensures { IfOk result (λ word. string_bytes word ≡ path.now ++ 64 ∷ name.now) }
+    ensures word { IfOk result (λ word. string_bytes word ≡ path.now ++ 64 ∷ name.now) }
+    ensures named { OnOk result (IsName path_is_bad PATH_LIMIT path.now × IsName name_is_bad NAME_LIMIT name.now) }
 {
     let mut text = Vec::from_slice(alloc, path.as_bytes())?;
     text.push(b'@')?;
@@ -97,7 +101,8 @@ fn snap_word(alloc: Global, path: &Path, name: &SnapName) -> Result<String, Allo
 }
 
 fn push_words(alloc: Global, words: &mut Words, cmd: &Cmd) -> Result<(), AllocError>
-    ensures { OnOk result (words.new ≡ words.old ++ words_of cmd.now) }
+    ensures words { OnOk result (words.new ≡ words.old ++ words_of cmd.now) }
+    ensures named { OnOk result (IsNamed cmd.now) }
 {
     match cmd {
         Cmd::Sets => push_sets(alloc, words),
@@ -114,7 +119,8 @@ fn push_words(alloc: Global, words: &mut Words, cmd: &Cmd) -> Result<(), AllocEr
 
 /// The words with which the program is called for a command, its own name first.
 pub fn argv_of(alloc: Global, program: &str, cmd: &Cmd) -> Result<Words, NoMemory>
-    ensures { IfOk result (λ words. words ≡ program.now ∷ words_of cmd.now) }
+    ensures words { IfOk result (λ words. words ≡ program.now ∷ words_of cmd.now) }
+    ensures named { OnOk result (IsNamed cmd.now) }
 {
     let mut words = Words::new(alloc);
     words.push(String::from_str(alloc, program)?)?;

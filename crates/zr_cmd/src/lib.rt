@@ -6,5 +6,6 @@ pub use reading::read_argv;
 pub use words::Words;
 
 pub mod argv;
+pub mod laws;
 pub mod reading;
 pub mod words;
