@@ -1,13 +1,11 @@
-// A library with one function.
+//! The words of the commands that are given to `zfs`, written and read.
 #![tactic(auto)]
 
-ghost use Rattle.std.specs.Prelude.{◌≡◌};
-ghost use Rattle.zr_cmd.specs.Echo.{echo_of};
+pub use argv::{ArgvFault, argv_of};
+pub use reading::read_argv;
+pub use words::Words;
 
-// The `ensures` clause is the contract: what `echo` returns is `echo_of` of its argument, a definition
-// in `specs/Echo.antt`, which a caller's clause can cite too.
-pub fn echo(x: usize) -> usize
-    ensures { result ≡ echo_of x }
-{
-    x
-}
+pub mod argv;
+pub mod laws;
+pub mod reading;
+pub mod words;
