@@ -1,0 +1,116 @@
+ghost use Rattle.std.specs.Prelude.{◌≡◌, ◌≤◌, ◌+◌, ◌<◌, ◌^◌, length};
+ghost use Rattle.zr_exec.specs.Answering.{IsAnswer, newlines, refusal_of};
+ghost use Rattle.zr_world.specs.Answering.{Fits};
+
+use crate::spawn::{LISTING_LIMIT, RunExit, Spawn};
+use std::alloc::Global;
+use zr_cmd::argv_of;
+use zr_listing::{ListFault, read_sets, read_versions};
+use zr_names::{NoMemory, Path, Rows, Unit};
+use zr_world::{Answer, Cmd, Reply, Zfs};
+
+/// A runner of ZFS commands that starts a child for each and reads what it writes.
+#[derive(Drop)]
+pub struct CliZfs<S> {
+    spawn: S,
+    program: String,
+}
+
+impl<S: Spawn> CliZfs<S> {
+    ghost use Rattle.std.specs.Prelude.{◌≡◌};
+
+    /// A runner whose children are those of this program, as `zfs`.
+    pub fn new(spawn: S, program: String) -> CliZfs<S>
+        ensures { result.spawn ≡ spawn }
+    {
+        CliZfs { spawn, program }
+    }
+
+    /// The runner of children.
+    pub fn spawn(self) -> S
+        ensures { result ≡ self.spawn }
+    {
+        let CliZfs { spawn, program: _ } = self;
+        spawn
+    }
+}
+
+fn newlines(bytes: &[u8]) -> usize
+    ensures count { result ≡ newlines bytes.now }
+    ensures within { result ≤ length bytes.now }
+{
+    bytes.iter().filter(|byte| **byte == b'\n').count()
+}
+
+/// The answer to a listing that is too long.
+fn cut(out: &[u8]) -> Answer
+    requires { length out.now ≤ LISTING_LIMIT }
+    ensures { result ≡ Answer.Garbled (newlines out.now + 1) }
+{
+    Answer::Garbled(newlines(out) as u64 + 1)
+}
+
+fn refused(fault: ListFault) -> Answer
+    ensures { result ≡ refusal_of fault }
+{
+    match fault {
+        ListFault::Garbled(line) => Answer::Garbled(line),
+        ListFault::NoMemory => Answer::NoMemory,
+    }
+}
+
+/// Reads what a child wrote that ended well.
+fn read_reply(alloc: Global, cmd: &Cmd, out: &[u8]) -> Answer
+    ensures answer { IsAnswer cmd.now RunExit.Done out.now result }
+    ensures shape { Fits cmd.now result }
+{
+    match cmd {
+        Cmd::Sets => match read_sets(alloc, out) {
+            Ok(rows) => Answer::Done(Reply::Sets(rows)),
+            Err(fault) => refused(fault),
+        },
+        Cmd::Versions(path) => match read_versions(alloc, path, out) {
+            Ok(rows) => Answer::Done(Reply::Versions(rows)),
+            Err(fault) => refused(fault),
+        },
+        Cmd::DestroySnap(_, _) => Answer::Done(Reply::Nothing),
+    }
+}
+
+/// The answer to a command by its child's end and what it wrote.
+fn answer(alloc: Global, cmd: &Cmd, exit: RunExit, out: &[u8]) -> Answer
+    requires { length out.now ≤ LISTING_LIMIT }
+    ensures answer { IsAnswer cmd.now exit out.now result }
+    ensures shape { Fits cmd.now result }
+{
+    match (exit, cmd) {
+        (RunExit::Done, _) => read_reply(alloc, cmd, out),
+        (RunExit::TooLong, Cmd::Sets | Cmd::Versions(_)) => cut(out),
+        (RunExit::TooLong | RunExit::Nonzero | RunExit::Failed, _) => Answer::Failed,
+        (RunExit::NoMemory, _) => Answer::NoMemory,
+    }
+}
+
+impl<S: Spawn> Zfs for CliZfs<S> {
+    ghost use Rattle.std.specs.Prelude.{None};
+
+    ghost faults = { λ c. S.faults c.spawn };
+
+    ghost pools = { λ _. None };
+
+    ghost told = { λ _. None };
+
+    fn begin(&mut self, unit: &Unit, run: u64) -> Result<(), NoMemory> {
+        self.spawn.begin(unit, run)
+    }
+
+    fn run(&mut self, cmd: &Cmd) -> Answer {
+        let alloc = *self.program.allocator();
+        let Ok(argv) = argv_of(alloc, self.program.as_str(), cmd) else {
+            return Answer::NoMemory;
+        };
+        let mut out = Vec::new(alloc);
+        let exit = self.spawn.run(argv.as_slice(), &mut out);
+        answer(alloc, cmd, exit, out.as_slice())
+    }
+}

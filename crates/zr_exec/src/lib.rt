@@ -1,0 +1,13 @@
+//! Children that run commands, how they end, and the runner of ZFS commands over them.
+#![tactic(auto)]
+
+pub use cli::CliZfs;
+pub use formed::is_well_formed;
+pub use mem::MemSpawn;
+pub use spawn::{Call, LISTING_LIMIT, Line, RunExit, Spawn};
+
+pub mod cli;
+pub mod formed;
+pub mod mem;
+pub mod serving;
+pub mod spawn;
