@@ -1,4 +1,5 @@
 pub mod Clock
+pub mod Status
 pub mod Stored
 pub mod Totals
 pub mod Units

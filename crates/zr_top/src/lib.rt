@@ -4,10 +4,15 @@
 pub use clock::{Clock, MemClock};
 pub use files::{Files, MemFiles, ReadFault, StoredFile};
 pub use report::totals_line;
+pub use status::Status;
+pub use top::zrepl;
 
 pub mod clock;
 pub mod files;
 pub mod once;
+pub mod printing;
 pub mod report;
 pub mod running;
+pub mod status;
+pub mod top;
 pub mod words;

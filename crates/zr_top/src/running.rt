@@ -41,7 +41,10 @@ pub fn run_scan<Z: Zfs>(
             found
         }
         Err(unbegun) => {
-            let Unbegun { unit: _unit, z: back } = unbegun;
+            let Unbegun {
+                unit: _unit,
+                z: back,
+            } = unbegun;
             let _ = back;
             (Outcome::NoMemory, Vec::new(alloc))
         }
@@ -63,7 +66,10 @@ pub fn run_prune<Z: Zfs>(alloc: Global, jobs: &JobSet, unit: Unit, run: u64, z: 
             outcome
         }
         Err(unbegun) => {
-            let Unbegun { unit: _unit, z: back } = unbegun;
+            let Unbegun {
+                unit: _unit,
+                z: back,
+            } = unbegun;
             let _ = back;
             Outcome::NoMemory
         }

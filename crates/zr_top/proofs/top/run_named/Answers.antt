@@ -1,0 +1,21 @@
+use Rattle.std.proofs.Common.{◌∙◌, inl, subst, sym}
+use Rattle.zr_top.specs.Status.{IsRefused}
+use Rattle.zr_top.proofs.Refusing.{unread, unread-not-refused}
+use Rattle.zr_top.proofs.top.run_named.Goals as goal
+
+pub returns-in-Ok-clause-refused : goal.returns-in-Ok-clause-refused
+returns-in-Ok-clause-refused g c = λ whole there refused.
+    let bytes = c.as_slice.ensures.value ∙ c.in-Ok.ensures.bytes whole there in
+    inl (c.run_file.ensures.refused (subst IsRefused (sym bytes) refused))
+
+pub returns-in-Ok-clause-refused_only : goal.returns-in-Ok-clause-refused_only
+returns-in-Ok-clause-refused_only g c = λ is whole there.
+    let bytes = c.as_slice.ensures.value ∙ c.in-Ok.ensures.bytes whole there in
+    subst IsRefused bytes (c.run_file.ensures.refused_only is)
+
+pub returns-in-Err-Failed-clause-refused : goal.returns-in-Err-Failed-clause-refused
+returns-in-Err-Failed-clause-refused g c = λ whole there refused. unread _ c.unreadable.ensures
+
+pub returns-in-Err-Failed-clause-refused_only : goal.returns-in-Err-Failed-clause-refused_only
+returns-in-Err-Failed-clause-refused_only g c = λ is whole there.
+    absurd (unread-not-refused _ c.unreadable.ensures is)

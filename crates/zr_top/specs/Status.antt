@@ -1,0 +1,52 @@
+use Rattle.std.specs.Prelude.{◌≡◌, ◌≢◌, ◌⊎◌, ◌||◌, ◌+◌, ℕ, Bool, true, false, List, Err, if◌then◌else◌, nat_lt}
+use Rattle.zr_names.specs.declared.totals.Totals.{Totals}
+use Rattle.zr_jobfile.specs.declared.JobFault.{JobFault}
+use Rattle.zr_jobfile.specs.declared.JobFault.TheVariants.{NoMemory}
+use Rattle.zr_jobfile.specs.SnapFile.{ReadsJobs}
+use Rattle.zr_top.specs.declared.status.Status.{Status}
+use Rattle.zr_top.specs.declared.status.Status.TheVariants as status
+
+-- the exit status
+abbrev pub code_of : Status → ℕ
+code_of status.Clean = 0
+code_of status.Usage = 2
+code_of status.JobFile = 3
+code_of status.Conflict = 4
+code_of status.ChildFault = 5
+code_of status.Garbled = 6
+code_of status.Unreadable = 7
+code_of status.Unwritable = 8
+code_of status.OutOfMemory = 9
+
+-- the status of units by their totals
+abbrev pub status_of : Totals → Status
+status_of t =
+    if nat_lt 0 t.nomemory
+    then status.OutOfMemory
+    else (if nat_lt 0 t.garbled
+    then status.Garbled
+    else (if nat_lt 0 t.faults
+    then status.ChildFault
+    else (if nat_lt 0 t.conflicts || nat_lt 0 t.toolong then status.Conflict else status.Clean)))
+
+-- a line was printed and this is the status, or the output or memory failed
+abbrev pub Printed : Status → Status → Type 0
+Printed wanted given =
+    (given ≡ wanted) ⊎ (given ≡ status.Unwritable) ⊎ (given ≡ status.OutOfMemory)
+
+-- the job file was refused, or could not be read, and the line was printed, or the output or memory failed
+abbrev pub RefusedOrUnread : Status → Type 0
+RefusedOrUnread given = Printed status.JobFile given ⊎ (given ≡ status.Unreadable)
+
+-- the status is one that comes after the job file was accepted
+abbrev pub is_of_run : Status → Bool
+is_of_run status.Usage = false
+is_of_run status.JobFile = false
+is_of_run status.Unreadable = false
+is_of_run other = true
+
+-- the bytes of a job file are refused
+pub record IsRefused (bytes : List ℕ) : Type 0 where
+  pub fault : JobFault
+  pub by_fault : ReadsJobs bytes (Err fault)
+  pub not_memory : fault ≢ NoMemory

@@ -1,0 +1,44 @@
+ghost use Rattle.std.specs.Prelude.{◌≡◌, ◌≢◌, ◌⊎◌, IfErr};
+ghost use Rattle.zr_top.specs.Status.{Printed};
+ghost use Rattle.zr_jobfile.specs.declared.JobFault.TheVariants.{NoMemory as OutOfMemory};
+
+use crate::status::Status;
+use zr_jobfile::JobFault;
+use zr_pipe::{PutFault, Sink};
+
+/// Writes some bytes.
+fn put<S: Sink>(out: &mut S, text: &[u8]) -> Result<(), Status>
+    ensures { IfErr result (λ status. (status ≡ Status.Unwritable) ⊎ (status ≡ Status.OutOfMemory)) }
+{
+    match out.put(text) {
+        Ok(()) => Ok(()),
+        Err(PutFault::Failed) => Err(Status::Unwritable),
+        Err(PutFault::NoMemory) => Err(Status::OutOfMemory),
+    }
+}
+
+/// Prints a line and gives the status, or the fault of the output.
+pub fn print<S: Sink>(out: &mut S, line: &str, status: Status) -> Status
+    ensures { Printed status result }
+{
+    if let Err(fault) = put(out, line.as_bytes()) {
+        return fault;
+    }
+    match put(out, b"\n") {
+        Ok(()) => status,
+        Err(fault) => fault,
+    }
+}
+
+/// Prints why a job file is refused.
+pub fn refuse<S: Sink>(out: &mut S, fault: JobFault) -> Status
+    ensures refused { fault ≢ OutOfMemory → Printed Status.JobFile result }
+    ensures memory { fault ≡ OutOfMemory → result ≡ Status.OutOfMemory }
+{
+    match fault {
+        JobFault::TooManyBytes => print(out, "job file: TooMany Bytes", Status::JobFile),
+        JobFault::NotToml => print(out, "job file: NotToml", Status::JobFile),
+        JobFault::NotBuilt => print(out, "job file: NotBuilt", Status::JobFile),
+        JobFault::NoMemory => Status::OutOfMemory,
+    }
+}

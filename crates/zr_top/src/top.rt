@@ -1,0 +1,173 @@
+ghost use Rattle.std.specs.Prelude.{◌≡◌, ◌≢◌, ◌≤◌, ◌<◌, ◌+◌, ℕ, List, Some, None, Contains, [], ◌∷◌, map, take, true, vec_len};
+ghost use Rattle.std.specs.String.{string_bytes};
+ghost use Rattle.zr_jobfile.specs.declared.TheConstants.{FILE_LIMIT};
+ghost use Rattle.zr_top.specs.Status.{is_of_run, IsRefused, Printed, RefusedOrUnread};
+ghost use Rattle.zr_top.specs.Words.{file_of};
+
+use crate::clock::Clock;
+use crate::files::{Files, ReadFault};
+use crate::once::once;
+use crate::printing::{print, refuse};
+use crate::report::{USAGE, totals_line};
+use crate::status::Status;
+use crate::words::once_file;
+use std::alloc::Global;
+use std::sync::Wait;
+use std::thread::Threads;
+use zr_exec::{CliZfs, Spawn};
+use zr_jobfile::{FILE_LIMIT, read_jobs};
+use zr_names::Totals;
+use zr_permit::JobSet;
+use zr_pipe::Sink;
+
+/// Runs all that is due at the clock's next moment, with one runner, which is given back.
+fn once_with<R: Spawn, C: Clock + Drop>(
+    alloc: Global,
+    jobs: &JobSet,
+    child: R,
+    mut clock: C,
+) -> (Option<Totals>, R) {
+    let Ok(program) = String::from_str(alloc, "zfs") else {
+        return (None, child);
+    };
+    let moment = clock.tick();
+    let mut zfs = CliZfs::new(child, program);
+    let totals = once(alloc, jobs, moment, &mut zfs);
+    (Some(totals), zfs.spawn())
+}
+
+/// Runs `once` with the first of the runners, which is put back in its place.
+fn once_with_first<R: Spawn + Drop, C: Clock + Drop>(
+    alloc: Global,
+    jobs: &JobSet,
+    children: &mut Vec<R>,
+    clock: C,
+) -> Option<Totals>
+    requires { 0 < vec_len children.old }
+    ensures { vec_len children.new ≡ vec_len children.old }
+{
+    let child = children.remove(0);
+    let (totals, child) = once_with(alloc, jobs, child, clock);
+    match children.insert(0, child) {
+        Ok(()) => totals,
+        Err(_) => unreachable!(),
+    }
+}
+
+/// Runs `once` for the jobs of a file, and prints its totals.
+fn run_jobs<R: Spawn + Drop, C: Clock + Drop, S: Sink>(
+    alloc: Global,
+    jobs: &JobSet,
+    children: &mut Vec<R>,
+    clock: C,
+    out: &mut S,
+) -> Status
+    requires { 0 < vec_len children.old }
+    ensures len { vec_len children.new ≡ vec_len children.old }
+    ensures of_run { is_of_run result ≡ true }
+{
+    let Some(totals) = once_with_first(alloc, jobs, children, clock) else {
+        return Status::OutOfMemory;
+    };
+    match totals_line(alloc, &totals) {
+        Ok(line) => print(out, line.as_str(), Status::of(&totals)),
+        Err(_) => Status::OutOfMemory,
+    }
+}
+
+/// Runs `once` for the bytes of a job file.
+fn run_file<R: Spawn + Drop, C: Clock + Drop, S: Sink>(
+    alloc: Global,
+    bytes: &[u8],
+    children: &mut Vec<R>,
+    clock: C,
+    out: &mut S,
+) -> Status
+    requires { 0 < vec_len children.old }
+    ensures len { vec_len children.new ≡ vec_len children.old }
+    ensures refused { IsRefused bytes.now → Printed Status.JobFile result }
+    ensures refused_only { result ≡ Status.JobFile → IsRefused bytes.now }
+    ensures no_usage { result ≢ Status.Usage }
+    ensures readable { result ≢ Status.Unreadable }
+{
+    match read_jobs(alloc, bytes) {
+        Ok(jobs) => run_jobs(alloc, &jobs, children, clock, out),
+        Err(fault) => refuse(out, fault),
+    }
+}
+
+/// Prints that a file can't be read.
+fn unreadable<S: Sink>(alloc: Global, out: &mut S, file: &str) -> Status
+    ensures { Printed Status.Unreadable result }
+{
+    match format!(in alloc; "cannot read {file}") {
+        Ok(line) => print(out, line.as_str(), Status::Unreadable),
+        Err(_) => Status::OutOfMemory,
+    }
+}
+
+/// Runs `once` for the job file of this name.
+fn run_named<F: Files, R: Spawn + Drop, C: Clock + Drop, S: Sink>(
+    alloc: Global,
+    file: &str,
+    files: &mut F,
+    children: &mut Vec<R>,
+    clock: C,
+    out: &mut S,
+) -> Status
+    requires { 0 < vec_len children.old }
+    ensures len { vec_len children.new ≡ vec_len children.old }
+    ensures refused { (whole : List ℕ) → F.content files.old file.now ≡ Some whole →
+        IsRefused (take (FILE_LIMIT + 1) whole) → RefusedOrUnread result }
+    ensures refused_only { result ≡ Status.JobFile → (whole : List ℕ) →
+        F.content files.old file.now ≡ Some whole → IsRefused (take (FILE_LIMIT + 1) whole) }
+    ensures no_usage { result ≢ Status.Usage }
+{
+    match files.read(file, FILE_LIMIT) {
+        Ok(bytes) => run_file(alloc, bytes.as_slice(), children, clock, out),
+        Err(ReadFault::Failed) => unreadable(alloc, out, file),
+        Err(ReadFault::NoMemory) => Status::OutOfMemory,
+    }
+}
+
+/// Runs a command line, and gives the program's exit status.
+///
+/// `once FILE` reads the job file, runs the scan of each job and then the units that the scans found,
+/// with the first of the runners, and prints the totals.
+pub fn zrepl<H, F, R, C, S>(
+    _rt: &H,
+    alloc: Global,
+    words: &[String],
+    files: &mut F,
+    children: &mut Vec<R>,
+    clock: C,
+    out: &mut S,
+) -> u8
+where
+    H: Threads + Wait + Sync,
+    F: Files,
+    R: Spawn + Send + Drop,
+    C: Clock + Send + Drop,
+    S: Sink,
+    requires some { 0 < vec_len children.old }
+    requires few { vec_len children.old ≤ 16 }
+    ensures runners { vec_len children.new ≡ vec_len children.old }
+
+    // The words: status 2 only where they are no command, and then nothing but a failing output.
+    ensures usage_only { result ≡ 2 → file_of (map string_bytes words.now) ≡ None }
+    ensures usage { file_of (map string_bytes words.now) ≡ None → Contains (2 ∷ 8 ∷ 9 ∷ []) result }
+
+    // The job file: status 3 only where its bytes are refused, and then nothing but a failing read or
+    // output.
+    ensures refused_only { result ≡ 3 → (file whole : List ℕ) →
+        file_of (map string_bytes words.now) ≡ Some file → F.content files.old file ≡ Some whole →
+        IsRefused (take (FILE_LIMIT + 1) whole) }
+    ensures refused { (file whole : List ℕ) →
+        file_of (map string_bytes words.now) ≡ Some file → F.content files.old file ≡ Some whole →
+        IsRefused (take (FILE_LIMIT + 1) whole) → Contains (3 ∷ 7 ∷ 8 ∷ 9 ∷ []) result }
+{
+    match once_file(words) {
+        Some(file) => run_named(alloc, file, files, children, clock, out).code(),
+        None => print(out, USAGE, Status::Usage).code(),
+    }
+}
