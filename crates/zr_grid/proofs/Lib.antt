@@ -1,0 +1,5 @@
+pub mod Sequence
+pub mod Bytes
+pub mod Leaves
+pub mod Spans
+pub mod Faults

@@ -1,0 +1,2 @@
+-- The grid filter.
+use Rattle.std.specs.Prelude.{ℕ}

@@ -1,0 +1,6 @@
+pub mod Grammar
+pub mod Fault
+pub mod Scan
+pub mod Span
+pub mod Grid
+pub mod Kept
