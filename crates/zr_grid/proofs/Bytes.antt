@@ -45,7 +45,7 @@ pub within_weaker : {V : Type 0} (p q : ℕ → Bool) (L : V → List ℕ → Ty
 within_weaker p q L weaker within v t l = each_weaker p q weaker t (within v t l)
 
 begins_one : {A B : Type 0} (p q : ℕ → Bool) (LA : A → List ℕ → Type 0) (LB : B → List ℕ → Type 0) → Starts p LA → Starts q LB
-  → (v : A) (w : B) (c : ℕ) (t g h : List ℕ) → c ∷ t ≡ g ++ h → LA v g → LB w h → (p c || q c) ≡ true
+    → (v : A) (w : B) (c : ℕ) (t g h : List ℕ) → c ∷ t ≡ g ++ h → LA v g → LB w h → (p c || q c) ≡ true
 begins_one p q LA LB sa sb v w c t [] h e la lb = or_right (p c) (q c) (sb w c t (subst (LB w) (sym e) lb))
 begins_one p q LA LB sa sb v w c t (d ∷ g) h e la lb = let same : d ≡ c = cc in or_left (p c) (q c) (subst (λ (x : ℕ). p x ≡ true) same (sa v d g la))
 
@@ -91,7 +91,7 @@ blank_disjoint p space tab c blank other =
 
 -- a unit is one of five letters
 one_unit : (p : ℕ → Bool) → p 115 ≡ false → p 109 ≡ false → p 104 ≡ false → p 100 ≡ false → p 119 ≡ false
-  → (c : ℕ) (s m h d w : Bool) → eqb c 115 ≡ s → eqb c 109 ≡ m → eqb c 104 ≡ h → eqb c 100 ≡ d → eqb c 119 ≡ w → p c ≡ true → is_unit c ≡ true → ⊥
+    → (c : ℕ) (s m h d w : Bool) → eqb c 115 ≡ s → eqb c 109 ≡ m → eqb c 104 ≡ h → eqb c 100 ≡ d → eqb c 119 ≡ w → p c ≡ true → is_unit c ≡ true → ⊥
 one_unit p ps pm ph pd pw c true m h d w es em eh ed ew passes unit = byte_disjoint p 115 ps c passes es
 one_unit p ps pm ph pd pw c false true h d w es em eh ed ew passes unit = byte_disjoint p 109 pm c passes em
 one_unit p ps pm ph pd pw c false false true d w es em eh ed ew passes unit = byte_disjoint p 104 ph c passes eh

@@ -69,8 +69,8 @@ capped_again : (n d : ℕ) → capped (capped n * 10 + d) ≡ capped (n * 10 + d
 capped_again n d = omega arith
 
 digit_step : (n m b : ℕ) (bs : List ℕ) (x : Bool) → m ≡ capped n → is_digit b ≡ x
-  → Found (Trail (n * 10 + (b - 48))) capped bs (digits_from (capped (m * 10 + (b - 48))) bs).0 (digits_from (capped (m * 10 + (b - 48))) bs).1
-  → Found (Trail n) capped (b ∷ bs) (cond x (digits_from (capped (m * 10 + (b - 48))) bs) (m, b ∷ bs)).0 (cond x (digits_from (capped (m * 10 + (b - 48))) bs) (m, b ∷ bs)).1
+    → Found (Trail (n * 10 + (b - 48))) capped bs (digits_from (capped (m * 10 + (b - 48))) bs).0 (digits_from (capped (m * 10 + (b - 48))) bs).1
+    → Found (Trail n) capped (b ∷ bs) (cond x (digits_from (capped (m * 10 + (b - 48))) bs) (m, b ∷ bs)).0 (cond x (digits_from (capped (m * 10 + (b - 48))) bs) (m, b ∷ bs)).1
 digit_step n m b bs true me e ih = record {
   front = b ∷ ih.front;
   parts = ap (λ (t : List ℕ). b ∷ t) ih.parts;

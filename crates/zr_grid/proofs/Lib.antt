@@ -3,3 +3,4 @@ pub mod Bytes
 pub mod Leaves
 pub mod Spans
 pub mod Faults
+pub mod Places

@@ -69,21 +69,21 @@ Apart {A} {B} LA LB = (v : A) (w : B) (g k t : List ℕ) (c : ℕ) → LA v (g +
 
 -- a cut of a text whose front begins a text of the first form
 cuts : {A B : Type 0} (LA : A → List ℕ → Type 0) (LB : B → List ℕ → Type 0) → Apart LA LB → (v1 : A) (f1 m1 z : List ℕ) → LA v1 (f1 ++ m1) → (v : A) (w : B) (g h : List ℕ) → LA v g → LB w h → f1 ++ z ≡ g ++ h
-  → ((f1 ≡ g) × (z ≡ h)) ⊎ ((c : ℕ) × (k : List ℕ) × (g ≡ f1 ++ c ∷ k) × (z ≡ c ∷ (k ++ h)))
+    → ((f1 ≡ g) × (z ≡ h)) ⊎ ((c : ℕ) × (k : List ℕ) × (g ≡ f1 ++ c ∷ k) × (z ≡ c ∷ (k ++ h)))
 cuts {A} {B} LA LB apart v1 f1 m1 z viable v w g h la lb e =
     elim (cut f1 z g h e) [
       | inl p ↦ inl p
       | inr q ↦ elim q [
-          | inl (c, k, fe, he) ↦ absurd (apart v1 w g (k ++ m1) (k ++ z) c
-              (subst (LA v1) (ap (λ (t : List ℕ). t ++ m1) fe ∙ append_assoc g (c ∷ k) m1) viable)
-              (subst (LB w) he lb))
-          | inr r ↦ inr r
-        ]
+        | inl (c, k, fe, he) ↦ absurd (apart v1 w g (k ++ m1) (k ++ z) c
+            (subst (LA v1) (ap (λ (t : List ℕ). t ++ m1) fe ∙ append_assoc g (c ∷ k) m1) viable)
+            (subst (LB w) he lb))
+        | inr r ↦ inr r
+      ]
     ]
 
 after_front : {A B : Type 0} (LA : A → List ℕ → Type 0) (LB : B → List ℕ → Type 0) → Apart LA LB → (f1 : List ℕ) → (w2 : B) (f2 m2 y : List ℕ) → LB w2 (f2 ++ m2)
-  → (v : A) (g h : List ℕ) → LA v g → (c : ℕ) (k : List ℕ) → g ≡ f1 ++ c ∷ k → f2 ++ y ≡ c ∷ (k ++ h)
-  → ((f1 ≡ g) × (f2 ++ y ≡ h)) ⊎ ((f2 ≡ []) × ((c : ℕ) × (k : List ℕ) × (g ≡ f1 ++ c ∷ k) × (y ≡ c ∷ (k ++ h))))
+    → (v : A) (g h : List ℕ) → LA v g → (c : ℕ) (k : List ℕ) → g ≡ f1 ++ c ∷ k → f2 ++ y ≡ c ∷ (k ++ h)
+    → ((f1 ≡ g) × (f2 ++ y ≡ h)) ⊎ ((f2 ≡ []) × ((c : ℕ) × (k : List ℕ) × (g ≡ f1 ++ c ∷ k) × (y ≡ c ∷ (k ++ h))))
 after_front LA LB apart f1 w2 [] m2 y viable v g h la c k ge ze = inr (refl, (c, k, ge, ze))
 after_front LA LB apart f1 w2 (d ∷ f2) m2 y viable v g h la c k ge ze =
     let same : d ≡ c = cc in
@@ -91,8 +91,8 @@ after_front LA LB apart f1 w2 (d ∷ f2) m2 y viable v g h la c k ge ze =
 
 -- a cut of a text that is one of the first form, and then begins one of the second
 cuts_twice : {A B : Type 0} (LA : A → List ℕ → Type 0) (LB : B → List ℕ → Type 0) → Apart LA LB → (v1 : A) (f1 : List ℕ) → LA v1 f1 → (w2 : B) (f2 m2 y : List ℕ) → LB w2 (f2 ++ m2)
-  → (v : A) (w : B) (g h : List ℕ) → LA v g → LB w h → f1 ++ (f2 ++ y) ≡ g ++ h
-  → ((f1 ≡ g) × (f2 ++ y ≡ h)) ⊎ ((f2 ≡ []) × ((c : ℕ) × (k : List ℕ) × (g ≡ f1 ++ c ∷ k) × (y ≡ c ∷ (k ++ h))))
+    → (v : A) (w : B) (g h : List ℕ) → LA v g → LB w h → f1 ++ (f2 ++ y) ≡ g ++ h
+    → ((f1 ≡ g) × (f2 ++ y ≡ h)) ⊎ ((f2 ≡ []) × ((c : ℕ) × (k : List ℕ) × (g ≡ f1 ++ c ∷ k) × (y ≡ c ∷ (k ++ h))))
 cuts_twice {A} {B} LA LB apart v1 f1 good w2 f2 m2 y viable v w g h la lb e =
     elim (cuts LA LB apart v1 f1 [] (f2 ++ y) (subst (LA v1) (sym (append-nil f1)) good) v w g h la lb e) [
       | inl p ↦ inl p
@@ -101,8 +101,8 @@ cuts_twice {A} {B} LA LB apart v1 f1 good w2 f2 m2 y viable v w g h la lb e =
 
 -- nothing but the two values stands for both fronts
 pair_only : {A B C D : Type 0} (LA : A → List ℕ → Type 0) (LB : B → List ℕ → Type 0) (capA : A → C) (capB : B → D) → Apart LA LB
-  → (v1 : A) (f1 : List ℕ) → LA v1 f1 → (w2 : B) (f2 : List ℕ) → LB w2 f2 → (a : C) (b : D) → ((v : A) → LA v f1 → a ≡ capA v) → ((w : B) → LB w f2 → b ≡ capB w)
-  → (p : A × B) → Both LA LB p (f1 ++ f2) → (a ≡ capA p.0) × (b ≡ capB p.1)
+    → (v1 : A) (f1 : List ℕ) → LA v1 f1 → (w2 : B) (f2 : List ℕ) → LB w2 f2 → (a : C) (b : D) → ((v : A) → LA v f1 → a ≡ capA v) → ((w : B) → LB w f2 → b ≡ capB w)
+    → (p : A × B) → Both LA LB p (f1 ++ f2) → (a ≡ capA p.0) × (b ≡ capB p.1)
 pair_only {A} {B} LA LB capA capB apart v1 f1 good w2 f2 good2 a b only only2 (v, w) (g, h, e, la, lb) =
     elim (cuts_twice LA LB apart v1 f1 good w2 f2 [] [] (subst (LB w2) (sym (append-nil f2)) good2) v w g h la lb (ap (λ (u : List ℕ). f1 ++ u) (append-nil f2) ∙ e)) [
       | inl q ↦ (only v (subst (LA v) (sym q.0) la), only2 w (subst (LB w) (sym q.1 ∙ append-nil f2) lb))
@@ -110,7 +110,7 @@ pair_only {A} {B} LA LB capA capB apart v1 f1 good w2 f2 good2 a b only only2 (v
     ]
 
 pair_bad : {A B : Type 0} (LA : A → List ℕ → Type 0) (LB : B → List ℕ → Type 0) → Apart LA LB
-  → (v1 : A) (f1 : List ℕ) → LA v1 f1 → (w2 : B) (f2 m2 : List ℕ) → LB w2 (f2 ++ m2) → ((w : B) → LB w f2 → ⊥) → (p : A × B) → Both LA LB p (f1 ++ f2) → ⊥
+    → (v1 : A) (f1 : List ℕ) → LA v1 f1 → (w2 : B) (f2 m2 : List ℕ) → LB w2 (f2 ++ m2) → ((w : B) → LB w f2 → ⊥) → (p : A × B) → Both LA LB p (f1 ++ f2) → ⊥
 pair_bad {A} {B} LA LB apart v1 f1 good w2 f2 m2 viable bad (v, w) (g, h, e, la, lb) =
     elim (cuts_twice LA LB apart v1 f1 good w2 f2 m2 [] viable v w g h la lb (ap (λ (u : List ℕ). f1 ++ u) (append-nil f2) ∙ e)) [
       | inl q ↦ bad w (subst (LB w) (sym q.1 ∙ append-nil f2) lb)
@@ -118,8 +118,8 @@ pair_bad {A} {B} LA LB apart v1 f1 good w2 f2 m2 viable bad (v, w) (g, h, e, la,
     ]
 
 dead_here : {A B : Type 0} (LA : A → List ℕ → Type 0) (LB : B → List ℕ → Type 0) → Apart LA LB
-  → (v1 : A) (f1 r : List ℕ) → LA v1 f1 → Dead LA f1 r → (w2 : B) (f2 m2 : List ℕ) (b : ℕ) (bs : List ℕ) → LB w2 (f2 ++ m2) → r ≡ f2 ++ b ∷ bs → Dead LB f2 (b ∷ bs)
-  → (p : A × B) (more : List ℕ) → Both LA LB p ((f1 ++ f2) ++ b ∷ more) → ⊥
+    → (v1 : A) (f1 r : List ℕ) → LA v1 f1 → Dead LA f1 r → (w2 : B) (f2 m2 : List ℕ) (b : ℕ) (bs : List ℕ) → LB w2 (f2 ++ m2) → r ≡ f2 ++ b ∷ bs → Dead LB f2 (b ∷ bs)
+    → (p : A × B) (more : List ℕ) → Both LA LB p ((f1 ++ f2) ++ b ∷ more) → ⊥
 dead_here {A} {B} LA LB apart v1 f1 r good dead w2 f2 m2 b bs viable parts dead2 (v, w) more (g, h, e, la, lb) =
     elim (cuts_twice LA LB apart v1 f1 good w2 f2 m2 (b ∷ more) viable v w g h la lb (sym (append_assoc f1 f2 (b ∷ more)) ∙ e)) [
       | inl q ↦ dead2 w more (subst (LB w) (sym q.1) lb)
@@ -130,7 +130,7 @@ dead_here {A} {B} LA LB apart v1 f1 r good dead w2 f2 m2 b bs viable parts dead2
     ]
 
 pair_dead : {A B : Type 0} (LA : A → List ℕ → Type 0) (LB : B → List ℕ → Type 0) → Apart LA LB
-  → (v1 : A) (f1 r : List ℕ) → LA v1 f1 → Dead LA f1 r → (w2 : B) (f2 m2 s : List ℕ) → LB w2 (f2 ++ m2) → r ≡ f2 ++ s → Dead LB f2 s → Dead (Both LA LB) (f1 ++ f2) s
+    → (v1 : A) (f1 r : List ℕ) → LA v1 f1 → Dead LA f1 r → (w2 : B) (f2 m2 s : List ℕ) → LB w2 (f2 ++ m2) → r ≡ f2 ++ s → Dead LB f2 s → Dead (Both LA LB) (f1 ++ f2) s
 pair_dead {A} {B} LA LB apart v1 f1 r good dead w2 f2 m2 [] viable parts dead2 = tt
 pair_dead {A} {B} LA LB apart v1 f1 r good dead w2 f2 m2 (b ∷ bs) viable parts dead2 =
     λ (p : A × B) (more : List ℕ) (q : Both LA LB p ((f1 ++ f2) ++ b ∷ more)).
@@ -144,7 +144,7 @@ stuck_bad {A} {B} LA LB apart v1 f1 m1 viable bad (v, w) (g, h, e, la, lb) =
     ]
 
 stuck_here : {A B : Type 0} (LA : A → List ℕ → Type 0) (LB : B → List ℕ → Type 0) → Apart LA LB → (v1 : A) (f1 m1 : List ℕ) (b : ℕ) (bs : List ℕ) → LA v1 (f1 ++ m1) → ((v : A) → LA v f1 → ⊥) → Dead LA f1 (b ∷ bs)
-  → (p : A × B) (more : List ℕ) → Both LA LB p (f1 ++ b ∷ more) → ⊥
+    → (p : A × B) (more : List ℕ) → Both LA LB p (f1 ++ b ∷ more) → ⊥
 stuck_here {A} {B} LA LB apart v1 f1 m1 b bs viable bad dead (v, w) more (g, h, e, la, lb) =
     elim (cuts LA LB apart v1 f1 m1 (b ∷ more) viable v w g h la lb e) [
       | inl q ↦ bad v (subst (LA v) (sym q.0) la)
@@ -165,8 +165,8 @@ same_pair : {C D : Type 0} (a c : C) (b d : D) (p q : C × D) → p ≡ (a, b) �
 same_pair a c b d p q pe qe x y = cc
 
 second : {A B C D : Type 0} (LA : A → List ℕ → Type 0) (LB : B → List ℕ → Type 0) (capA : A → C) (capB : B → D) → Apart LA LB
-  → (text : List ℕ) (a : C) (r : List ℕ) → Found LA capA text a r → (scan : Result (D × List ℕ) ℕ) → Scanned LB capB r scan
-  → Scanned (Both LA LB) (both_caps capA capB) text (scan >>= λ b. Ok ((a, b.0), b.1))
+    → (text : List ℕ) (a : C) (r : List ℕ) → Found LA capA text a r → (scan : Result (D × List ℕ) ℕ) → Scanned LB capB r scan
+    → Scanned (Both LA LB) (both_caps capA capB) text (scan >>= λ b. Ok ((a, b.0), b.1))
 second LA LB capA capB apart text a r x (Ok (b, s)) y = record {
   front = x.front ++ y.front;
   parts = x.parts ∙ ap (λ (u : List ℕ). x.front ++ u) y.parts ∙ sym (append_assoc x.front y.front s);
@@ -188,7 +188,7 @@ second LA LB capA capB apart text a r x (Err left) y = record {
 }
 
 first : {A B C D : Type 0} (LA : A → List ℕ → Type 0) (LB : B → List ℕ → Type 0) (capA : A → C) (capB : B → D) (g : List ℕ → Result (D × List ℕ) ℕ) → Apart LA LB → (w : B) (some : List ℕ) → LB w some → Scans LB capB g
-  → (text : List ℕ) (scan : Result (C × List ℕ) ℕ) → Scanned LA capA text scan → Scanned (Both LA LB) (both_caps capA capB) text (scan >>= λ a. g a.1 >>= λ b. Ok ((a.0, b.0), b.1))
+    → (text : List ℕ) (scan : Result (C × List ℕ) ℕ) → Scanned LA capA text scan → Scanned (Both LA LB) (both_caps capA capB) text (scan >>= λ a. g a.1 >>= λ b. Ok ((a.0, b.0), b.1))
 first LA LB capA capB g apart w some ls sg text (Ok (a, r)) x = second LA LB capA capB apart text a r x (g r) (sg r)
 first LA LB capA capB g apart w some ls sg text (Err left) x = record {
   front = x.front;
@@ -204,7 +204,7 @@ first LA LB capA capB g apart w some ls sg text (Err left) x = record {
 
 -- two scans, one after the other, read one form and then the other
 pub scans_both : {A B C D : Type 0} (LA : A → List ℕ → Type 0) (LB : B → List ℕ → Type 0) (capA : A → C) (capB : B → D) (f : List ℕ → Result (C × List ℕ) ℕ) (g : List ℕ → Result (D × List ℕ) ℕ)
-  → Apart LA LB → (w : B) (some : List ℕ) → LB w some → Scans LA capA f → Scans LB capB g → Scans (Both LA LB) (both_caps capA capB) (pair f g)
+    → Apart LA LB → (w : B) (some : List ℕ) → LB w some → Scans LA capA f → Scans LB capB g → Scans (Both LA LB) (both_caps capA capB) (pair f g)
 scans_both LA LB capA capB f g apart w some ls sf sg text = first LA LB capA capB g apart w some ls sg text (f text) (sf text)
 
 -- ---- the same form under other values
@@ -214,8 +214,8 @@ dead_as L M from front [] dead = tt
 dead_as {V} {W} L M from front (b ∷ rest) dead = λ (w : W) (more : List ℕ) (m : M w (front ++ b ∷ more)). let v = from w (front ++ b ∷ more) m in dead v.0 more v.1
 
 scanned_as : {V W C D : Type 0} (L : V → List ℕ → Type 0) (M : W → List ℕ → Type 0) (cap : V → C) (cap' : W → D) (k : V → W) (k' : C → D)
-  → ((v : V) (t : List ℕ) → L v t → M (k v) t) → ((w : W) (t : List ℕ) → M w t → (v : V) × L v t × (w ≡ k v)) → ((v : V) (t : List ℕ) → L v t → k' (cap v) ≡ cap' (k v))
-  → (text : List ℕ) (scan : Result (C × List ℕ) ℕ) → Scanned L cap text scan → Scanned M cap' text (scan >>= λ x. Ok (k' x.0, x.1))
+    → ((v : V) (t : List ℕ) → L v t → M (k v) t) → ((w : W) (t : List ℕ) → M w t → (v : V) × L v t × (w ≡ k v)) → ((v : V) (t : List ℕ) → L v t → k' (cap v) ≡ cap' (k v))
+    → (text : List ℕ) (scan : Result (C × List ℕ) ℕ) → Scanned L cap text scan → Scanned M cap' text (scan >>= λ x. Ok (k' x.0, x.1))
 scanned_as L M cap cap' k k' to from agree text (Ok (c, rest)) x = record {
   front = x.front;
   parts = x.parts;
@@ -237,6 +237,6 @@ scanned_as L M cap cap' k k' to from agree text (Err left) x = record {
 }
 
 pub scans_as : {V W C D : Type 0} (L : V → List ℕ → Type 0) (M : W → List ℕ → Type 0) (cap : V → C) (cap' : W → D) (f : List ℕ → Result (C × List ℕ) ℕ) (k : V → W) (k' : C → D)
-  → ((v : V) (t : List ℕ) → L v t → M (k v) t) → ((w : W) (t : List ℕ) → M w t → (v : V) × L v t × (w ≡ k v)) → ((v : V) (t : List ℕ) → L v t → k' (cap v) ≡ cap' (k v))
-  → Scans L cap f → Scans M cap' (λ t. f t >>= λ x. Ok (k' x.0, x.1))
+    → ((v : V) (t : List ℕ) → L v t → M (k v) t) → ((w : W) (t : List ℕ) → M w t → (v : V) × L v t × (w ≡ k v)) → ((v : V) (t : List ℕ) → L v t → k' (cap v) ≡ cap' (k v))
+    → Scans L cap f → Scans M cap' (λ t. f t >>= λ x. Ok (k' x.0, x.1))
 scans_as L M cap cap' f k k' to from agree sf text = scanned_as L M cap cap' k k' to from agree text (f text) (sf text)

@@ -4,3 +4,4 @@ pub mod Scan
 pub mod Span
 pub mod Grid
 pub mod Kept
+pub mod Place
