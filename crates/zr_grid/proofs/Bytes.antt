@@ -59,6 +59,20 @@ begins_first p LA never sa v c t (d ∷ g) h e la = let same : d ≡ c = cc in s
 pub starts_first : {A B : Type 0} (p : ℕ → Bool) (LA : A → List ℕ → Type 0) (LB : B → List ℕ → Type 0) → NeverEmpty LA → Starts p LA → Starts p (Both LA LB)
 starts_first p LA LB never sa (v, w) c t (g, h, e, la, lb) = begins_first p LA never sa v c t g h e la
 
+pub never_first : {A : Type 0} (L : A → List ℕ → Type 0) → NeverEmpty L → (v : A) (g h : List ℕ) → [] ≡ g ++ h → L v g → ⊥
+never_first L never v [] h e l = never v l
+never_first L never v (b ∷ g) h e l = cc
+
+pub never_both : {A B : Type 0} (LA : A → List ℕ → Type 0) (LB : B → List ℕ → Type 0) → NeverEmpty LA → NeverEmpty (Both LA LB)
+never_both LA LB never (v, w) (g, h, e, la, lb) = never_first LA never v g h e la
+
+never_last : {B : Type 0} (L : B → List ℕ → Type 0) → NeverEmpty L → (w : B) (g h : List ℕ) → [] ≡ g ++ h → L w h → ⊥
+never_last L never w [] h e l = never w (subst (L w) (sym e) l)
+never_last L never w (b ∷ g) h e l = cc
+
+pub never_after : {A B : Type 0} (LA : A → List ℕ → Type 0) (LB : B → List ℕ → Type 0) → NeverEmpty LB → NeverEmpty (Both LA LB)
+never_after LA LB never (v, w) (g, h, e, la, lb) = never_last LB never w g h e lb
+
 -- ---- tests of bytes
 
 -- the letter of a unit

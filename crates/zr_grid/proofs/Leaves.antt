@@ -62,7 +62,7 @@ starts_blanks v c t l = l.0
 -- ---- numbers
 
 -- digits, or none, that go on from n
-abbrev Trail : ℕ → ℕ → List ℕ → Type 0
+abbrev pub Trail : ℕ → ℕ → List ℕ → Type 0
 Trail n v text = Each is_digit text × (v ≡ number_after n text)
 
 capped_again : (n d : ℕ) → capped (capped n * 10 + d) ≡ capped (n * 10 + d)
@@ -88,11 +88,11 @@ digit_step n m b bs false me e ih = record {
   dead = λ (v : ℕ) (more : List ℕ) (l : Trail n v (b ∷ more)). let passes = l.0.0 in cc;
 }
 
-digits_found : (n m : ℕ) (text : List ℕ) → m ≡ capped n → Found (Trail n) capped text (digits_from m text).0 (digits_from m text).1
+pub digits_found : (n m : ℕ) (text : List ℕ) → m ≡ capped n → Found (Trail n) capped text (digits_from m text).0 (digits_from m text).1
 digits_found n m [] me = record { front = []; parts = refl; value = n; good = (tt, refl); only = λ v h. me ∙ ap capped (sym h.1); dead = tt }
 digits_found n m (b ∷ bs) me = digit_step n m b bs (is_digit b) me refl (digits_found (n * 10 + (b - 48)) (capped (m * 10 + (b - 48))) bs (ap (λ (k : ℕ). capped (k * 10 + (b - 48))) me ∙ capped_again n (b - 48)))
 
-number_longer : (n : ℕ) (digits : List ℕ) → 0 < number_after n (digits ++ 49 ∷ [])
+pub number_longer : (n : ℕ) (digits : List ℕ) → 0 < number_after n (digits ++ 49 ∷ [])
 number_longer n [] = omega arith
 number_longer n (d ∷ digits) = number_longer (n * 10 + (d - 48)) digits
 

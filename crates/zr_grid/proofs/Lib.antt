@@ -1,6 +1,9 @@
 pub mod Sequence
 pub mod Bytes
 pub mod Leaves
+pub mod Words
 pub mod Spans
+pub mod Forms
+pub mod Grids
 pub mod Faults
 pub mod Places

@@ -187,10 +187,9 @@ second LA LB capA capB apart text a r x (Err left) y = record {
   dead = pair_dead LA LB apart x.value x.front r x.good x.dead y.value y.front y.more y.rest y.begins y.parts y.dead;
 }
 
-first : {A B C D : Type 0} (LA : A → List ℕ → Type 0) (LB : B → List ℕ → Type 0) (capA : A → C) (capB : B → D) (g : List ℕ → Result (D × List ℕ) ℕ) → Apart LA LB → (w : B) (some : List ℕ) → LB w some → Scans LB capB g
-    → (text : List ℕ) (scan : Result (C × List ℕ) ℕ) → Scanned LA capA text scan → Scanned (Both LA LB) (both_caps capA capB) text (scan >>= λ a. g a.1 >>= λ b. Ok ((a.0, b.0), b.1))
-first LA LB capA capB g apart w some ls sg text (Ok (a, r)) x = second LA LB capA capB apart text a r x (g r) (sg r)
-first LA LB capA capB g apart w some ls sg text (Err left) x = record {
+stuck_first : {A B C D : Type 0} (LA : A → List ℕ → Type 0) (LB : B → List ℕ → Type 0) (capA : A → C) (capB : B → D) → Apart LA LB → (w : B) (some : List ℕ) → LB w some
+    → (text : List ℕ) (left : ℕ) → Stuck LA text left → Stuck (Both LA LB) text left
+stuck_first LA LB capA capB apart w some ls text left x = record {
   front = x.front;
   rest = x.rest;
   parts = x.parts;
@@ -201,6 +200,11 @@ first LA LB capA capB g apart w some ls sg text (Err left) x = record {
   bad = stuck_bad LA LB apart x.value x.front x.more x.begins x.bad;
   dead = stuck_dead LA LB apart x.value x.front x.more x.rest x.begins x.bad x.dead;
 }
+
+first : {A B C D : Type 0} (LA : A → List ℕ → Type 0) (LB : B → List ℕ → Type 0) (capA : A → C) (capB : B → D) (g : List ℕ → Result (D × List ℕ) ℕ) → Apart LA LB → (w : B) (some : List ℕ) → LB w some → Scans LB capB g
+    → (text : List ℕ) (scan : Result (C × List ℕ) ℕ) → Scanned LA capA text scan → Scanned (Both LA LB) (both_caps capA capB) text (scan >>= λ a. g a.1 >>= λ b. Ok ((a.0, b.0), b.1))
+first LA LB capA capB g apart w some ls sg text (Ok (a, r)) x = second LA LB capA capB apart text a r x (g r) (sg r)
+first LA LB capA capB g apart w some ls sg text (Err left) x = stuck_first LA LB capA capB apart w some ls text left x
 
 -- two scans, one after the other, read one form and then the other
 pub scans_both : {A B C D : Type 0} (LA : A → List ℕ → Type 0) (LB : B → List ℕ → Type 0) (capA : A → C) (capB : B → D) (f : List ℕ → Result (C × List ℕ) ℕ) (g : List ℕ → Result (D × List ℕ) ℕ)
@@ -213,7 +217,7 @@ dead_as : {V W : Type 0} (L : V → List ℕ → Type 0) (M : W → List ℕ →
 dead_as L M from front [] dead = tt
 dead_as {V} {W} L M from front (b ∷ rest) dead = λ (w : W) (more : List ℕ) (m : M w (front ++ b ∷ more)). let v = from w (front ++ b ∷ more) m in dead v.0 more v.1
 
-scanned_as : {V W C D : Type 0} (L : V → List ℕ → Type 0) (M : W → List ℕ → Type 0) (cap : V → C) (cap' : W → D) (k : V → W) (k' : C → D)
+pub scanned_as : {V W C D : Type 0} (L : V → List ℕ → Type 0) (M : W → List ℕ → Type 0) (cap : V → C) (cap' : W → D) (k : V → W) (k' : C → D)
     → ((v : V) (t : List ℕ) → L v t → M (k v) t) → ((w : W) (t : List ℕ) → M w t → (v : V) × L v t × (w ≡ k v)) → ((v : V) (t : List ℕ) → L v t → k' (cap v) ≡ cap' (k v))
     → (text : List ℕ) (scan : Result (C × List ℕ) ℕ) → Scanned L cap text scan → Scanned M cap' text (scan >>= λ x. Ok (k' x.0, x.1))
 scanned_as L M cap cap' k k' to from agree text (Ok (c, rest)) x = record {
@@ -240,3 +244,9 @@ pub scans_as : {V W C D : Type 0} (L : V → List ℕ → Type 0) (M : W → Lis
     → ((v : V) (t : List ℕ) → L v t → M (k v) t) → ((w : W) (t : List ℕ) → M w t → (v : V) × L v t × (w ≡ k v)) → ((v : V) (t : List ℕ) → L v t → k' (cap v) ≡ cap' (k v))
     → Scans L cap f → Scans M cap' (λ t. f t >>= λ x. Ok (k' x.0, x.1))
 scans_as L M cap cap' f k k' to from agree sf text = scanned_as L M cap cap' k k' to from agree text (f text) (sf text)
+
+-- the same for one text
+pub both_here : {A B C D : Type 0} (LA : A → List ℕ → Type 0) (LB : B → List ℕ → Type 0) (capA : A → C) (capB : B → D) (g : List ℕ → Result (D × List ℕ) ℕ) → Apart LA LB → (w : B) (some : List ℕ) → LB w some
+    → (text : List ℕ) (scan : Result (C × List ℕ) ℕ) → Scanned LA capA text scan → ((a : C) (r : List ℕ) → scan ≡ Ok (a, r) → Scanned LB capB r (g r)) → Scanned (Both LA LB) (both_caps capA capB) text (scan >>= λ a. g a.1 >>= λ b. Ok ((a.0, b.0), b.1))
+both_here LA LB capA capB g apart w some ls text (Ok (a, r)) x sg = second LA LB capA capB apart text a r x (g r) (sg a r refl)
+both_here LA LB capA capB g apart w some ls text (Err left) x sg = stuck_first LA LB capA capB apart w some ls text left x

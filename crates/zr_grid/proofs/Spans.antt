@@ -1,6 +1,6 @@
 -- Spans are scanned as the grammar says.
 use Rattle.std.proofs.Common.{◌≡◌, ℕ, zero, suc, ◌+◌, ◌-◌, ◌*◌, ◌^◌, ◌<◌, ◌≤◌, ◌⊎◌, Bool, true, false, ◌||◌, min, List, [], ◌∷◌, ◌++◌, length, Result, Ok, Err, refl, sym, ap, subst, ◌∙◌, inl, inr, arith}
-use Rattle.std.proofs.lemmas.Bool.{cases_lt}
+use Rattle.std.proofs.lemmas.Bool.{cases_lt, or_left, or_right}
 use Rattle.zr_grid.specs.Grammar.{◌⨾◌, is_blank, is_digit, Blanks, Counted, UnitOf, Span}
 use Rattle.zr_grid.specs.Scan.{◌>>=◌, capped, skip, counted_at, unit_at, span_at}
 use Rattle.zr_grid.specs.declared.span.SpanFault.TheVariants.{BadSpan, SpanTooBig}
@@ -8,7 +8,7 @@ use Rattle.zr_grid.specs.declared.span.TheConstants.{MAX_SPAN}
 use Rattle.zr_grid.specs.Span.{ReadsSpan}
 use Rattle.zr_grid.proofs.Faults.{found_fault, stuck_fault, found_whole, nothing_left, something_left}
 use Rattle.zr_grid.proofs.Sequence.{Found, Stuck, Scans, Scanned, Both, both_caps, pair, scans_both, scans_as}
-use Rattle.zr_grid.proofs.Bytes.{apart, within_both, starts_either, starts_first, NeverEmpty, Starts, blank_disjoint, unit_disjoint, disjoint_swap, disjoint_or, is_unit}
+use Rattle.zr_grid.proofs.Bytes.{apart, within_both, starts_either, starts_first, NeverEmpty, Starts, blank_disjoint, unit_disjoint, disjoint_swap, disjoint_or, is_unit, is_of_span, Within, within_weaker, never_both, never_after}
 use Rattle.zr_grid.proofs.Leaves.{Gap, plain, exact, skip_at, scans_blanks, within_blanks, starts_blanks, scans_counted, within_counted, starts_counted, never_counted, scans_unit, within_unit, starts_unit, never_unit, unit_positive}
 
 -- the five parts of a span, from the last one on
@@ -62,6 +62,21 @@ scans_whole = scans_both Gap First plain (both_caps capped (both_caps plain (bot
     (apart is_blank is_digit Gap First (blank_disjoint is_digit refl refl) within_blanks starts_first_part)
     (1, (tt, (1, tt))) (49 ∷ 115 ∷ []) some_first scans_blanks scans_first
 
+some_whole : Whole (tt, (1, (tt, (1, tt)))) (49 ∷ 115 ∷ [])
+some_whole = ([], 49 ∷ 115 ∷ [], refl, tt, some_first)
+
+never_whole : NeverEmpty Whole
+never_whole = never_after Gap First (never_both Counted Second never_counted)
+
+within_whole : Within is_of_span Whole
+within_whole = within_both is_of_span Gap First blanks
+    (within_both is_of_span Counted Second (within_weaker is_digit is_of_span Counted (λ b h. or_left (is_blank b || is_digit b) (is_unit b) (or_right (is_blank b) (is_digit b) h)) within_counted)
+    (within_both is_of_span Gap UnitPart blanks
+    (within_both is_of_span UnitOf Gap (within_weaker is_unit is_of_span UnitOf (λ b h. or_right (is_blank b || is_digit b) (is_unit b) h) within_unit) blanks)))
+  where
+    blanks : Within is_of_span Gap
+    blanks = within_weaker is_blank is_of_span Gap (λ b h. or_left (is_blank b || is_digit b) (is_unit b) (or_left (is_blank b) (is_digit b) h)) within_blanks
+
 -- ---- the value
 
 capped_product : (n k : ℕ) → capped (capped n * suc k) ≡ capped (n * suc k)
@@ -91,6 +106,15 @@ from_span s t (n, u, e, l) = ((tt, (n, (tt, (u, tt)))), l, e)
 
 agrees : (v : Unit {0} × (ℕ × (Unit {0} × (ℕ × Unit {0})))) (t : List ℕ) → Whole v t → capped_seconds (both_caps plain (both_caps capped (both_caps plain (both_caps exact plain))) v) ≡ capped (seconds_of v)
 agrees v t (f1, b1, e1, l1, (f2, b2, e2, l2, (f3, b3, e3, l3, (f4, b4, e4, l4, l5)))) = capped_span v.1.0 v.1.1.1.0 (unit_positive v.1.1.1.0 f4 l4)
+
+pub some_span : Span 1 (49 ∷ 115 ∷ [])
+some_span = to_span (tt, (1, (tt, (1, tt)))) (49 ∷ 115 ∷ []) some_whole
+
+pub never_span : NeverEmpty Span
+never_span s l = let v = from_span s [] l in never_whole v.0 v.1
+
+pub within_span : Within is_of_span Span
+within_span s t l = let v = from_span s t l in within_whole v.0 t v.1
 
 -- ---- the scan
 

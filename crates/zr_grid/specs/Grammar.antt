@@ -1,6 +1,9 @@
--- The grammar of spans: what each text is made of, from left to right.
-use Rattle.std.specs.Prelude.{◌≡◌, ℕ, ◌+◌, ◌-◌, ◌*◌, ◌<◌, Bool, ◌==◌, ◌&&◌, ◌||◌, nat_le, IsTrue, if◌then◌else◌, List, [], ◌∷◌, ◌++◌, length, fold, Option, Some, None}
+-- The grammar of spans and grids: what each text is made of, from left to right.
+use Rattle.std.specs.Prelude.{◌≡◌, ℕ, ◌+◌, ◌-◌, ◌*◌, ◌<◌, Bool, ◌==◌, ◌&&◌, ◌||◌, nat_le, IsTrue, if◌then◌else◌, List, [], ◌∷◌, ◌++◌, length, fold, Option, Some, None, ◌⊎◌, codes}
 use Rattle.std.specs.List.{AllByRecursion}
+use Rattle.zr_grid.specs.declared.grid.Interval.{Interval}
+use Rattle.zr_grid.specs.declared.grid.Keep.{Keep}
+use Rattle.zr_grid.specs.declared.grid.Keep.TheVariants.{All, Most}
 
 -- the texts that are one of the first form, and then one of the second
 infixr 10 ◌⨾◌
@@ -43,3 +46,34 @@ UnitOf seconds text = (letter : ℕ) × (text ≡ letter ∷ []) × (unit_of let
 -- a span: a number that is at least 1 and its unit, with blanks where one likes
 unfoldable pub Span : ℕ → List ℕ → Type 0
 Span seconds text = (n : ℕ) × (unit : ℕ) × (seconds ≡ n * unit) × (Blanks ⨾ Counted n ⨾ Blanks ⨾ UnitOf unit ⨾ Blanks) text
+
+-- the texts of a form, and then blanks
+abbrev pub Spaced : (List ℕ → Type 0) → List ℕ → Type 0
+Spaced form text = (form ⨾ Blanks) text
+
+-- this text alone
+abbrev pub Word : List ℕ → List ℕ → Type 0
+Word word text = text ≡ word
+
+-- what is kept: all, or a number
+abbrev pub Kept : Keep → List ℕ → Type 0
+Kept All text = Word (codes "all") text
+Kept (Most n) text = Digits n text
+
+-- what is kept, in brackets
+abbrev pub Brackets : Keep → List ℕ → Type 0
+Brackets keep text = (Word (codes "(") ⨾ Blanks ⨾ Spaced (Word (codes "keep")) ⨾ Spaced (Word (codes "=")) ⨾ Spaced (Kept keep) ⨾ Spaced (Word (codes ")"))) text
+
+-- brackets, or nothing, which keeps one
+abbrev pub KeepPart : Keep → List ℕ → Type 0
+KeepPart keep text = ((text ≡ []) × (keep ≡ Most 1)) ⊎ Brackets keep text
+
+-- an interval: how many, an x, how long each is, and what is kept
+unfoldable pub IntervalText : Interval → List ℕ → Type 0
+IntervalText interval text = (Blanks ⨾ Spaced (Counted interval.count) ⨾ Word (codes "x") ⨾ Span interval.width ⨾ KeepPart interval.keep) text
+
+-- a grid: an interval or more, parted by bars
+abbrev pub Grid : List Interval → List ℕ → Type 0
+Grid [] text = ⊥
+Grid (interval ∷ []) text = IntervalText interval text
+Grid (interval ∷ next ∷ others) text = (IntervalText interval ⨾ Word (codes "|") ⨾ Grid (next ∷ others)) text

@@ -1,10 +1,19 @@
 //! Retention grids, as `1x1h(keep=all) | 24x1h`.
 
-use std::alloc::{AllocError, Global};
+ghost use Rattle.std.specs.Prelude.{◌≡◌};
+ghost use Rattle.zr_grid.specs.Scan.{GivesForms};
+
+use crate::form::{Form, KeepForm, interval_form};
+use crate::scan::Stop;
+use crate::span::MAX_SPAN;
+use std::alloc::{AllocError, AllocFailed, Global};
 use std::marker::Model;
 
 /// How many intervals a grid may have in all.
 pub const MAX_INTERVALS: u64 = 100_000;
+
+/// How many snapshots an interval may keep at most, where it does not keep all.
+pub const MAX_KEEP: u64 = 4_294_967_295;
 
 /// What an interval keeps of the snapshots in it.
 #[derive(Clone, Copy, Debug, PartialEq, Eq)]
@@ -74,4 +83,52 @@ impl Intervals {
 #[derive(Debug, Drop)]
 pub struct GridSpec {
     pub intervals: Intervals,
+}
+
+/// Why a text is no grid.
+#[derive(Clone, Copy, Debug, PartialEq, Eq)]
+pub enum GridFault {
+    /// The text leaves the grammar. The number is the length of its longest front that begins a grid.
+    BadGrid(usize),
+    /// It is a grid, but it has more than 100,000 intervals, one longer than the longest span, or one that keeps more than 4,294,967,295.
+    GridTooBig,
+    NoMemory,
+}
+
+/// Why the intervals of a text were not read.
+#[derive(Clone, Copy)]
+enum Unread {
+    Stopped(Stop),
+    NoMemory,
+}
+
+impl<T: Drop> From<AllocFailed<T>> for Unread {
+    ghost use Rattle.zr_grid.specs.declared.grid.Unread.TheVariants.{NoMemory as Wanting};
+
+    ghost from_gives = { λ _ e. e ≡ Wanting };
+
+    fn from(_failed: AllocFailed<T>) -> Unread {
+        Unread::NoMemory
+    }
+}
+
+fn forms(alloc: Global, text: &[u8]) -> Result<Vec<Form>, Unread>
+    ensures { GivesForms (λ v. v.items) text.now result }
+{
+    let mut forms = Vec::new(alloc);
+    let mut rest = text;
+    'intervals: loop {
+        let (form, after) = match interval_form(rest) {
+            Ok(read) => read,
+            Err(stop) => return Err(Unread::Stopped(stop)),
+        };
+        forms.push(form)?;
+        let [bar, more @ ..] = after else {
+            return Ok(forms);
+        };
+        if *bar != b'|' {
+            return Err(Unread::Stopped(Stop { left: after.len() }));
+        }
+        rest = more;
+    }
 }

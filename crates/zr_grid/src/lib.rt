@@ -1,6 +1,7 @@
 //! Spans of time and retention grids: their texts, and the snapshots that a grid keeps.
 #![tactic(auto)]
 
+mod form;
 mod grid;
 mod kept;
 mod scan;
