@@ -109,5 +109,5 @@ reading_more front rest form after target e some bar (n, long, before) =
 
 -- the same for a list that is known to be so
 pub reading_pushed : (front pushed : List Form) (rest : List ℕ) (form : Form) (after : List ℕ) (target : Result (List Form × List ℕ) ℕ) → pushed ≡ front ++ form ∷ [] → form_at rest ≡ Ok (form, after) → 1 ≤ length after → get_or after 0 0 ≡ 124
-  → Reading front rest target → (n : ℕ) × (length (take (length after - 1) (drop 1 after)) < n) × (with_front pushed (grid_at n (take (length after - 1) (drop 1 after))) ≡ target)
+    → Reading front rest target → (n : ℕ) × (length (take (length after - 1) (drop 1 after)) < n) × (with_front pushed (grid_at n (take (length after - 1) (drop 1 after))) ≡ target)
 reading_pushed front pushed rest form after target same e some bar before = subst (λ (fs : List Form). Reading fs (take (length after - 1) (drop 1 after)) target) (sym same) (reading_more front rest form after target e some bar before)

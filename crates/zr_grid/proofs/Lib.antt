@@ -5,5 +5,6 @@ pub mod Words
 pub mod Spans
 pub mod Forms
 pub mod Grids
+pub mod Limits
 pub mod Faults
 pub mod Places

@@ -5,3 +5,4 @@ pub mod Span
 pub mod Grid
 pub mod Kept
 pub mod Place
+pub mod Build

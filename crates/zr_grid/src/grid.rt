@@ -1,7 +1,10 @@
 //! Retention grids, as `1x1h(keep=all) | 24x1h`.
 
 ghost use Rattle.std.specs.Prelude.{◌≡◌};
+ghost use Rattle.std.specs.Prelude.{if◌then◌else◌, Some, None};
 ghost use Rattle.zr_grid.specs.Scan.{GivesForms};
+ghost use Rattle.zr_grid.specs.Build.{is_big_form, interval_from, Builds, IsLeft, fault_of};
+ghost use Rattle.zr_grid.specs.Grid.{ReadsGrid};
 
 use crate::form::{Form, KeepForm, interval_form};
 use crate::scan::Stop;
@@ -131,4 +134,73 @@ fn forms(alloc: Global, text: &[u8]) -> Result<Vec<Form>, Unread>
         }
         rest = more;
     }
+}
+
+impl<T: Drop> From<AllocFailed<T>> for GridFault {
+    ghost use Rattle.zr_grid.specs.declared.grid.GridFault.TheVariants.{NoMemory as Wanting};
+
+    ghost from_gives = { λ _ e. e ≡ Wanting };
+
+    fn from(_failed: AllocFailed<T>) -> GridFault {
+        GridFault::NoMemory
+    }
+}
+
+/// The interval, where no number of it is above its limit.
+fn within_limits(form: &Form) -> Option<Interval>
+    ensures { result ≡ (if is_big_form form.now then None else Some (interval_from form.now)) }
+{
+    if form.count > MAX_INTERVALS || form.width > MAX_SPAN {
+        return None;
+    }
+    let keep = match form.keep {
+        KeepForm::All => Keep::All,
+        KeepForm::Most(most) if most <= MAX_KEEP => Keep::Most(most as u32),
+        KeepForm::Most(_) => return None,
+    };
+    Some(Interval {
+        count: form.count as u32,
+        width: form.width,
+        keep,
+    })
+}
+
+fn build(alloc: Global, forms: &[Form]) -> Result<Vec<Interval>, GridFault>
+    ensures { Builds (λ v. v.items) forms.now result }
+{
+    let mut intervals = Vec::new(alloc);
+    let mut total: u64 = 0;
+    for form in forms {
+        let Some(interval) = within_limits(form) else {
+            return Err(GridFault::GridTooBig);
+        };
+        total += form.count;
+        if total > MAX_INTERVALS {
+            return Err(GridFault::GridTooBig);
+        }
+        intervals.push(interval)?;
+    }
+    Ok(intervals)
+}
+
+fn fault_of(text: &[u8], unread: Unread) -> GridFault
+    requires { IsLeft text.now unread }
+    ensures { result ≡ fault_of text.now unread }
+{
+    match unread {
+        Unread::Stopped(stop) => GridFault::BadGrid(text.len() - stop.left),
+        Unread::NoMemory => GridFault::NoMemory,
+    }
+}
+
+/// The grid that a text spells (the grammar of zrepl's `grid` rule).
+pub fn read_grid(alloc: Global, text: &[u8]) -> Result<GridSpec, GridFault>
+    ensures { ReadsGrid text.now result }
+{
+    let forms = match forms(alloc, text) {
+        Ok(forms) => forms,
+        Err(unread) => return Err(fault_of(text, unread)),
+    };
+    let intervals = Intervals::from_vec(build(alloc, forms.as_slice())?);
+    Ok(GridSpec { intervals })
 }

@@ -7,6 +7,8 @@ mod kept;
 mod scan;
 mod span;
 
-pub use grid::{GridSpec, Interval, Intervals, Keep, MAX_INTERVALS};
+pub use grid::{
+    GridFault, GridSpec, Interval, Intervals, Keep, MAX_INTERVALS, MAX_KEEP, read_grid,
+};
 pub use kept::{GridRow, grid_keeps};
-pub use span::{SpanFault, read_span};
+pub use span::{MAX_SPAN, SpanFault, read_span};
