@@ -6,5 +6,6 @@ pub mod Spans
 pub mod Forms
 pub mod Grids
 pub mod Limits
+pub mod Printed
 pub mod Faults
 pub mod Places

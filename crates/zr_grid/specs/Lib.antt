@@ -6,3 +6,4 @@ pub mod Grid
 pub mod Kept
 pub mod Place
 pub mod Build
+pub mod Canonical

@@ -4,6 +4,7 @@
 mod form;
 mod grid;
 mod kept;
+mod print;
 mod scan;
 mod span;
 
@@ -11,4 +12,5 @@ pub use grid::{
     GridFault, GridSpec, Interval, Intervals, Keep, MAX_INTERVALS, MAX_KEEP, read_grid,
 };
 pub use kept::{GridRow, grid_keeps};
+pub use print::print_grid;
 pub use span::{MAX_SPAN, SpanFault, read_span};

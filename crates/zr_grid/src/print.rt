@@ -1,0 +1,52 @@
+//! The canonical text of a grid.
+
+ghost use Rattle.std.specs.Prelude.{◌≡◌, ◌++◌, OnOk, IfOk};
+ghost use Rattle.std.specs.List.{flat_map};
+ghost use Rattle.std.specs.String.{string_bytes};
+ghost use Rattle.zr_grid.specs.Grid.{IsGrid};
+ghost use Rattle.zr_grid.specs.Grammar.{Grid};
+ghost use Rattle.zr_grid.specs.Canonical.{interval_text, next_text, grid_text};
+
+use crate::grid::{GridSpec, Interval, Keep};
+use std::alloc::{AllocError, Global};
+
+fn print_interval(text: &mut String, interval: &Interval) -> Result<(), AllocError>
+    ensures { OnOk result (string_bytes text.new ≡ string_bytes text.old ++ interval_text interval.now) }
+{
+    write!(text, "{}x{}s", interval.count, interval.width)?;
+    match interval.keep {
+        Keep::All => text.push_str("(keep=all)")?,
+        Keep::Most(1) => {}
+        Keep::Most(most) => write!(text, "(keep={most})")?,
+    }
+    Ok(())
+}
+
+fn print_others(text: &mut String, others: &[Interval]) -> Result<(), AllocError>
+    ensures { OnOk result (string_bytes text.new ≡ string_bytes text.old ++ flat_map next_text others.now) }
+{
+    for interval in others {
+        text.push_str(" | ")?;
+        print_interval(text, interval)?;
+    }
+    Ok(())
+}
+
+fn print_intervals(alloc: Global, intervals: &[Interval]) -> Result<Vec<u8>, AllocError>
+    ensures { IfOk result (λ text. text.items ≡ grid_text intervals.now) }
+{
+    let mut text = String::new(alloc);
+    if let [first, others @ ..] = intervals {
+        print_interval(&mut text, first)?;
+        print_others(&mut text, others)?;
+    }
+    Ok(text.into_bytes())
+}
+
+/// The canonical text of a grid: widths in seconds, and no brackets where one is kept.
+pub fn print_grid(alloc: Global, spec: &GridSpec) -> Result<Vec<u8>, AllocError>
+    ensures canonical { IfOk result (λ text. text.items ≡ grid_text spec.now.intervals) }
+    ensures read_again { IsGrid spec.now.intervals → IfOk result (λ text. Grid spec.now.intervals text.items) }
+{
+    print_intervals(alloc, spec.intervals.as_slice())
+}
