@@ -7,5 +7,6 @@ pub mod Forms
 pub mod Grids
 pub mod Limits
 pub mod Printed
+pub mod Valid
 pub mod Faults
 pub mod Places

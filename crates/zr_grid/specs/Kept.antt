@@ -67,6 +67,10 @@ slots_keep all top rows i row = row.matches && some_slot (λ place slot. lies_in
 abbrev pub grid_kept : List Interval → List GridRow → ℕ → GridRow → Bool
 grid_kept intervals rows i row = slots_keep (slots intervals) (newest rows) rows i row
 
+-- smaller creation, or equal creation and no greater txg
+abbrev pub comes_before : GridRow → GridRow → Bool
+comes_before first second = nat_lt first.creation second.creation || (first.creation == second.creation && nat_le first.txg second.txg)
+
 -- rows by creation, and then by txg
 abbrev pub IsAscending : List GridRow → Type 0
-IsAscending rows = AllPairs (λ a b. IsTrue (nat_lt a.creation b.creation || (a.creation == b.creation && nat_le a.txg b.txg))) rows
+IsAscending rows = AllPairs (λ first second. IsTrue (comes_before first second)) rows

@@ -1,10 +1,10 @@
 //! Retention grids, as `1x1h(keep=all) | 24x1h`.
 
 ghost use Rattle.std.specs.Prelude.{◌≡◌};
-ghost use Rattle.std.specs.Prelude.{if◌then◌else◌, Some, None};
+ghost use Rattle.std.specs.Prelude.{if◌then◌else◌, Some, None, IsTrue, ◌↔◌};
 ghost use Rattle.zr_grid.specs.Scan.{GivesForms};
 ghost use Rattle.zr_grid.specs.Build.{is_big_form, interval_from, Builds, IsLeft, fault_of};
-ghost use Rattle.zr_grid.specs.Grid.{ReadsGrid};
+ghost use Rattle.zr_grid.specs.Grid.{ReadsGrid, IsInterval, IsGrid, KeepsAtMost};
 
 use crate::form::{Form, KeepForm, interval_form};
 use crate::scan::Stop;
@@ -71,19 +71,22 @@ impl Intervals {
     {
         self.items.as_slice()
     }
+}
 
-    /// A copy, with memory of its own.
-    pub fn try_clone(&self, alloc: Global) -> Result<Self, AllocError>
-        ensures { IfOk result (λ copy. copy ≡ self.now) }
-    {
+impl Clone for Intervals {
+    ghost use Rattle.std.specs.Prelude.{◌≡◌};
+
+    ghost is_clone = { λ intervals copy. copy ≡ intervals };
+
+    fn clone(&self) -> Result<Self, AllocError> {
         Ok(Intervals {
-            items: Vec::from_slice(alloc, self.items.as_slice())?,
+            items: self.items.clone()?,
         })
     }
 }
 
 /// A retention grid (zrepl's prune policy `grid`).
-#[derive(Debug, Drop)]
+#[derive(Clone, Debug, Drop)]
 pub struct GridSpec {
     pub intervals: Intervals,
 }
@@ -203,4 +206,40 @@ pub fn read_grid(alloc: Global, text: &[u8]) -> Result<GridSpec, GridFault>
     };
     let intervals = Intervals::from_vec(build(alloc, forms.as_slice())?);
     Ok(GridSpec { intervals })
+}
+
+fn is_within_keep(keep: Keep) -> bool
+    ensures { IsTrue result ↔ KeepsAtMost MAX_KEEP keep }
+{
+    match keep {
+        Keep::All => true,
+        Keep::Most(most) => u64::from(most) <= MAX_KEEP,
+    }
+}
+
+fn is_interval(interval: &Interval) -> bool
+    ensures { IsTrue result ↔ IsInterval interval.now }
+{
+    if interval.count == 0 || interval.width == 0 || interval.width > MAX_SPAN {
+        return false;
+    }
+    is_within_keep(interval.keep)
+}
+
+/// Whether `read_grid` can give this grid.
+pub fn is_grid(spec: &GridSpec) -> bool
+    ensures { IsTrue result ↔ IsGrid spec.now.intervals }
+{
+    let intervals = spec.intervals.as_slice();
+    let mut total: u64 = 0;
+    for interval in intervals {
+        if !is_interval(interval) {
+            return false;
+        }
+        total += u64::from(interval.count);
+        if total > MAX_INTERVALS {
+            return false;
+        }
+    }
+    !intervals.is_empty()
 }

@@ -2,10 +2,10 @@
 
 ghost use Rattle.std.specs.Prelude.{◌≡◌, ℕ, ◌+◌, ◌<◌, ◌≤◌, ◌||◌, ◌&&◌, false, length, fold, max, filter, count_by, take, drop, slice_index_or, Bool};
 ghost use Rattle.std.specs.Option.{option_map};
-ghost use Rattle.std.specs.Prelude.{slice_get};
+ghost use Rattle.std.specs.Prelude.{slice_get, IsTrue, ◌↔◌};
 ghost use Rattle.zr_grid.specs.declared.kept.GridRow.{GridRow as RowValue};
 ghost use Rattle.zr_grid.specs.Grid.{IsGrid};
-ghost use Rattle.zr_grid.specs.Kept.{newest, grid_kept, slots, slots_keep, age_of, lies_in, is_in, has_room, is_older, is_twin, older_in, IsAscending};
+ghost use Rattle.zr_grid.specs.Kept.{newest, grid_kept, slots, slots_keep, age_of, lies_in, is_in, has_room, is_older, is_twin, older_in, comes_before, IsAscending};
 ghost use Rattle.zr_grid.specs.Place.{found};
 
 use crate::grid::{GridSpec, Interval, Keep};
@@ -161,6 +161,25 @@ fn is_kept(intervals: &[Interval], newest: u64, rows: &[GridRow], i: usize, row:
         ),
         None => false,
     }
+}
+
+fn comes_before(first: &GridRow, second: &GridRow) -> bool
+    ensures { result ≡ comes_before first.now second.now }
+{
+    first.creation < second.creation
+        || (first.creation == second.creation && first.txg <= second.txg)
+}
+
+/// Whether rows stand by creation, and then by txg.
+pub fn is_ascending(rows: &[GridRow]) -> bool
+    ensures { IsTrue result ↔ IsAscending rows.now }
+{
+    for i in 1..rows.len() {
+        if !comes_before(&rows[i - 1], &rows[i]) {
+            return false;
+        }
+    }
+    true
 }
 
 /// Sets the mark of each row that the grid keeps, and leaves the others (zrepl's prune policy `grid`).
