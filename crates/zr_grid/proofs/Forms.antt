@@ -1,19 +1,19 @@
 -- The text of an interval is scanned as the grammar says.
-use Rattle.std.proofs.Common.{◌≡◌, ℕ, zero, suc, ◌+◌, ◌-◌, ◌*◌, ◌^◌, ◌<◌, ◌≤◌, ◌⊎◌, Bool, true, false, ◌||◌, not, cond, eqb, min, List, [], ◌∷◌, ◌++◌, length, Result, Ok, Err, refl, sym, ap, subst, ◌∙◌, inl, inr, arith}
+use Rattle.std.proofs.Common.{◌≡◌, ℕ, ◌⊎◌, Bool, true, false, ◌||◌, not, cond, eqb, List, [], ◌∷◌, Result, Ok, Err, refl, sym, subst, inl, inr, arith}
 use Rattle.std.specs.Prelude.{codes}
-use Rattle.std.proofs.lemmas.Bool.{eqb-true, eqb-false, eq-eqb, or_left, or_right, not_from_false, false_from_ne_true}
+use Rattle.std.proofs.lemmas.Bool.{eqb-true, eq-eqb, or_left, or_right, not_from_false, false_from_ne_true}
 use Rattle.zr_grid.specs.declared.grid.Interval.{Interval}
 use Rattle.zr_grid.specs.declared.grid.Keep.{Keep}
 use Rattle.zr_grid.specs.declared.grid.Keep.TheVariants.{All, Most}
 use Rattle.zr_grid.specs.declared.form.Form.{Form}
 use Rattle.zr_grid.specs.declared.form.KeepForm.{KeepForm}
 use Rattle.zr_grid.specs.declared.form.KeepForm.TheVariants as forms
-use Rattle.zr_grid.specs.Grammar.{◌⨾◌, is_blank, is_digit, Blanks, Counted, Digits, UnitOf, Span, Spaced, Word, Kept, Brackets, KeepPart, IntervalText}
-use Rattle.zr_grid.specs.Scan.{◌>>=◌, capped, skip, word_at, lexeme_at, number_at, counted_at, unit_at, span_at, starts_with_byte, all_at, most_at, kept_at, brackets_at, keep_at, form_at}
-use Rattle.zr_grid.proofs.Sequence.{Found, Stuck, Scans, Scanned, Both, both_caps, pair, scans_both, scans_as, Apart}
-use Rattle.zr_grid.proofs.Bytes.{Each, Within, Starts, NeverEmpty, each_append, apart, within_both, within_weaker, starts_either, starts_first, byte_disjoint, blank_disjoint, unit_disjoint, disjoint_swap, disjoint_or, is_unit, is_byte, is_of_span}
-use Rattle.zr_grid.proofs.Leaves.{Gap, plain, exact, skip_at, scans_blanks, within_blanks, starts_blanks, scans_counted, within_counted, starts_counted, never_counted, within_digits}
-use Rattle.zr_grid.proofs.Words.{WordOf, word_scan, scans_word, within_word, starts_word, never_word, SpacedOf, spaced, scans_spaced, within_spaced, starts_spaced, never_spaced, scans_number, Misses, choice, Opt, opt_inside, opt_outside, starts_opt}
+use Rattle.zr_grid.specs.Grammar.{◌⨾◌, is_blank, is_digit, Blanks, Counted, Digits, Span, Spaced, Word, Kept, KeepPart, IntervalText}
+use Rattle.zr_grid.specs.Scan.{◌>>=◌, capped, word_at, number_at, counted_at, span_at, starts_with_byte, all_at, most_at, kept_at, brackets_at, keep_at, form_at}
+use Rattle.zr_grid.proofs.Sequence.{Scans, Scanned, Both, both_caps, pair, scans_both, scans_as, Apart}
+use Rattle.zr_grid.proofs.Bytes.{Each, Within, Starts, NeverEmpty, each_append, apart, within_both, within_weaker, starts_first, byte_disjoint, blank_disjoint, disjoint_swap, disjoint_or, is_byte, is_of_span}
+use Rattle.zr_grid.proofs.Leaves.{Gap, plain, skip_at, scans_blanks, within_blanks, starts_blanks, scans_counted, within_counted, starts_counted, never_counted, within_digits}
+use Rattle.zr_grid.proofs.Words.{WordOf, word_scan, scans_word, within_word, starts_word, never_word, SpacedOf, spaced, scans_spaced, within_spaced, starts_spaced, never_spaced, scans_number, Misses, choice, opt_inside, opt_outside, starts_opt}
 use Rattle.zr_grid.proofs.Spans.{scans_span, some_span, never_span, within_span}
 
 -- ---- what is kept

@@ -1,17 +1,16 @@
 -- Grids are scanned as the grammar says.
-use Rattle.std.proofs.Common.{◌≡◌, ℕ, zero, suc, ◌+◌, ◌-◌, ◌*◌, ◌^◌, ◌<◌, ◌≤◌, ◌⊎◌, Bool, true, false, cond, eqb, List, [], ◌∷◌, ◌++◌, length, map, Result, Ok, Err, refl, sym, ap, subst, ◌∙◌, inl, inr, append_assoc, arith, take, drop, get_or}
-use Rattle.std.proofs.lemmas.Bool.{eqb-true, eqb-false, eq-eqb}
+use Rattle.std.proofs.Common.{◌≡◌, ℕ, zero, suc, ◌-◌, ◌<◌, ◌≤◌, Bool, true, false, cond, eqb, List, [], ◌∷◌, ◌++◌, length, Result, Ok, Err, refl, sym, ap, subst, ◌∙◌, inl, inr, append_assoc, arith, take, drop, get_or}
+use Rattle.std.proofs.lemmas.Bool.{eqb-true, eq-eqb}
 use Rattle.std.proofs.lemmas.List.{append-nil, take_all}
 use Rattle.zr_grid.specs.declared.grid.Interval.{Interval}
-use Rattle.zr_grid.specs.declared.grid.Keep.TheVariants.{Most}
 use Rattle.zr_grid.specs.declared.form.Form.{Form}
 use Rattle.zr_grid.specs.Grammar.{◌⨾◌, Word, IntervalText, Grid}
-use Rattle.zr_grid.specs.Scan.{◌>>=◌, capped, form_at, opt_at, grid_at, ended, forms_at}
-use Rattle.zr_grid.proofs.Sequence.{Dead, Found, Stuck, Scans, Scanned, Both, both_caps, both_here, scanned_as, Apart}
-use Rattle.zr_grid.proofs.Bytes.{apart, is_byte, Disjoint}
+use Rattle.zr_grid.specs.Scan.{◌>>=◌, form_at, opt_at, grid_at}
+use Rattle.zr_grid.proofs.Sequence.{Scanned, Both, both_caps, both_here, scanned_as}
+use Rattle.zr_grid.proofs.Bytes.{apart, is_byte}
 use Rattle.zr_grid.proofs.Words.{Opt, opt_inside, opt_outside, starts_opt}
 use Rattle.zr_grid.proofs.Faults.{found_within}
-use Rattle.zr_grid.proofs.Forms.{cap_interval, scans_form, some_interval, within_form, is_no_bar, bind_assoc, bar_disjoint}
+use Rattle.zr_grid.proofs.Forms.{cap_interval, scans_form, within_form, is_no_bar, bind_assoc, bar_disjoint}
 
 -- ---- the grammar with its tail apart
 

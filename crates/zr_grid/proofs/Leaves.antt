@@ -1,9 +1,9 @@
 -- Blanks, numbers and units are scanned as the grammar says.
-use Rattle.std.proofs.Common.{◌≡◌, ℕ, zero, suc, ◌+◌, ◌-◌, ◌*◌, ◌^◌, ◌<◌, ◌≤◌, ◌≢◌, ◌⊎◌, Bool, true, false, cond, eqb, min, List, [], ◌∷◌, ◌++◌, length, Option, Some, None, Result, Ok, Err, refl, sym, ap, subst, ◌∙◌, inl, inr, arith}
+use Rattle.std.proofs.Common.{◌≡◌, ℕ, ◌+◌, ◌-◌, ◌*◌, ◌<◌, ◌≢◌, Bool, true, false, cond, eqb, List, [], ◌∷◌, ◌++◌, length, Option, Some, None, Result, Ok, Err, refl, sym, ap, subst, ◌∙◌, arith}
 use Rattle.std.proofs.lemmas.Bool.{eqb-true, eqb-false}
 use Rattle.zr_grid.specs.Grammar.{is_blank, is_digit, unit_of, Blanks, Digits, Counted, UnitOf, number_after}
 use Rattle.zr_grid.specs.Scan.{capped, skip, digits_from, counted_at, unit_at, unit_found}
-use Rattle.zr_grid.proofs.Sequence.{Dead, Found, Stuck, Scans, Scanned}
+use Rattle.zr_grid.proofs.Sequence.{Dead, Found, Scans, Scanned}
 use Rattle.zr_grid.proofs.Bytes.{Each, Within, Starts, NeverEmpty, is_unit, each_append}
 
 -- a form of texts alone

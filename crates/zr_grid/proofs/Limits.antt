@@ -1,6 +1,6 @@
 -- The numbers of a grid against their limits, and what `read_grid` answers.
-use Rattle.std.proofs.Common.{◌≡◌, ℕ, zero, suc, ◌+◌, ◌-◌, ◌*◌, ◌^◌, ◌<◌, ◌≤◌, ◌⊎◌, Bool, true, false, ◌||◌, cond, ltb, min, List, [], ◌∷◌, ◌++◌, length, sum_by, get_or, Option, Some, None, Result, Ok, Err, refl, sym, ap, subst, ◌∙◌, inl, inr, arith}
-use Rattle.std.specs.Prelude.{All, Any}
+use Rattle.std.proofs.Common.{◌≡◌, ℕ, zero, suc, ◌+◌, ◌-◌, ◌*◌, ◌<◌, ◌≤◌, ◌⊎◌, Bool, true, false, ◌||◌, cond, ltb, List, [], ◌∷◌, length, Option, Some, None, Result, Ok, Err, refl, sym, ap, subst, ◌∙◌, inl, inr, arith}
+use Rattle.std.specs.Prelude.{Any}
 use Rattle.std.specs.List.{AllByRecursion}
 use Rattle.std.specs.Option.{option_map}
 use Rattle.std.proofs.lemmas.Bool.{ltb-true, ltb-false, or_cases, or_parts}
@@ -9,7 +9,6 @@ use Rattle.std.proofs.lemmas.List.Elements.{All-from_recursion}
 use Rattle.zr_grid.specs.declared.grid.Interval.{Interval}
 use Rattle.zr_grid.specs.declared.grid.Keep.{Keep}
 use Rattle.zr_grid.specs.declared.grid.Keep.TheVariants as keeps
-use Rattle.zr_grid.specs.declared.grid.GridSpec.{GridSpec}
 use Rattle.zr_grid.specs.declared.grid.GridFault.{GridFault}
 use Rattle.zr_grid.specs.declared.grid.GridFault.TheVariants.{BadGrid, GridTooBig, NoMemory}
 use Rattle.zr_grid.specs.declared.grid.Unread.{Unread}
@@ -17,12 +16,12 @@ use Rattle.zr_grid.specs.declared.grid.Unread.TheVariants as unread
 use Rattle.zr_grid.specs.declared.form.Form.{Form}
 use Rattle.zr_grid.specs.declared.span.TheConstants.{MAX_SPAN}
 use Rattle.zr_grid.specs.declared.grid.TheConstants.{MAX_INTERVALS, MAX_KEEP}
-use Rattle.zr_grid.specs.Grammar.{Grid, IntervalText, Span, Counted}
+use Rattle.zr_grid.specs.Grammar.{Grid, IntervalText, Span}
 use Rattle.zr_grid.specs.Fault.{IsFault}
 use Rattle.zr_grid.specs.Grid.{IsGrid, IsInterval, IsTooBig, IsGridText, KeepsAbove, KeepsAtMost, ReadsGrid, total}
 use Rattle.zr_grid.specs.Scan.{capped, grid_at, ended, forms_at, GivesForms}
 use Rattle.zr_grid.specs.Build.{is_big_keep, is_big_form, interval_from, keep_from, build_at, Builds, IsLeft, fault_of}
-use Rattle.zr_grid.proofs.Sequence.{Found, Stuck, Scanned}
+use Rattle.zr_grid.proofs.Sequence.{Found, Scanned}
 use Rattle.zr_grid.proofs.Faults.{found_fault, found_within, found_whole, stuck_fault, stuck_within, something_left}
 use Rattle.zr_grid.proofs.Forms.{cap_interval, cap_keep}
 use Rattle.zr_grid.proofs.Grids.{cap_grid, scans_grid}

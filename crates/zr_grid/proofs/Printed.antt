@@ -1,9 +1,9 @@
 -- What is printed of a grid spells it.
-use Rattle.std.proofs.Common.{◌≡◌, ◌≢◌, ℕ, zero, suc, ◌+◌, ◌-◌, ◌*◌, ◌/◌, ◌%◌, ◌^◌, ◌<◌, ◌≤◌, ◌⊎◌, Bool, true, false, cond, eqb, List, [], ◌∷◌, ◌++◌, length, fold, sum_by, refl, sym, ap, subst, ◌∙◌, inl, inr, append_assoc, arith}
-use Rattle.std.specs.Prelude.{All, codes}
+use Rattle.std.proofs.Common.{◌≡◌, ℕ, ◌+◌, ◌-◌, ◌*◌, ◌/◌, ◌%◌, ◌^◌, ◌<◌, ◌≤◌, Bool, true, false, cond, eqb, List, [], ◌∷◌, ◌++◌, length, refl, sym, ap, subst, ◌∙◌, inl, inr, append_assoc, arith}
+use Rattle.std.specs.Prelude.{codes}
 use Rattle.std.specs.List.{AllByRecursion, flat_map}
 use Rattle.std.specs.Fmt.{decimal}
-use Rattle.std.proofs.lemmas.Bool.{eqb-true, eqb-false, le-leb, and_from}
+use Rattle.std.proofs.lemmas.Bool.{eqb-true, le-leb, and_from}
 use Rattle.std.proofs.lemmas.List.{append-nil}
 use Rattle.std.proofs.lemmas.List.Sums.{sum_by-cons, fold-append}
 use Rattle.std.proofs.lemmas.List.Elements.{recursion_from_All}
@@ -12,10 +12,10 @@ use Rattle.zr_grid.specs.declared.grid.Interval.{Interval}
 use Rattle.zr_grid.specs.declared.grid.Keep.{Keep}
 use Rattle.zr_grid.specs.declared.grid.Keep.TheVariants as keeps
 use Rattle.zr_grid.specs.declared.grid.TheConstants.{MAX_INTERVALS, MAX_KEEP}
-use Rattle.zr_grid.specs.Grammar.{◌⨾◌, is_digit, Blanks, Digits, Counted, Span, KeepPart, IntervalText, Grid, number_after}
+use Rattle.zr_grid.specs.Grammar.{is_digit, Blanks, Digits, Span, KeepPart, IntervalText, Grid, number_after}
 use Rattle.zr_grid.specs.Grid.{IsGrid, IsInterval, KeepsAtMost, total}
 use Rattle.zr_grid.specs.Canonical.{keep_text, interval_text, next_text, grid_text}
-use Rattle.zr_grid.proofs.Bytes.{Each, each_append}
+use Rattle.zr_grid.proofs.Bytes.{each_append}
 
 -- ---- numbers
 

@@ -1,7 +1,7 @@
 -- Spans are scanned as the grammar says.
-use Rattle.std.proofs.Common.{◌≡◌, ℕ, zero, suc, ◌+◌, ◌-◌, ◌*◌, ◌^◌, ◌<◌, ◌≤◌, ◌⊎◌, Bool, true, false, ◌||◌, min, List, [], ◌∷◌, ◌++◌, length, Result, Ok, Err, refl, sym, ap, subst, ◌∙◌, inl, inr, arith}
+use Rattle.std.proofs.Common.{◌≡◌, ℕ, zero, suc, ◌-◌, ◌*◌, ◌^◌, ◌<◌, ◌≤◌, true, ◌||◌, List, [], ◌∷◌, length, Result, Ok, Err, refl, sym, subst, ◌∙◌, inl, inr, arith}
 use Rattle.std.proofs.lemmas.Bool.{cases_lt, or_left, or_right}
-use Rattle.zr_grid.specs.Grammar.{◌⨾◌, is_blank, is_digit, Blanks, Counted, UnitOf, Span}
+use Rattle.zr_grid.specs.Grammar.{is_blank, is_digit, Counted, UnitOf, Span}
 use Rattle.zr_grid.specs.Scan.{◌>>=◌, capped, skip, counted_at, unit_at, span_at}
 use Rattle.zr_grid.specs.declared.span.SpanFault.TheVariants.{BadSpan, SpanTooBig}
 use Rattle.zr_grid.specs.declared.span.TheConstants.{MAX_SPAN}

@@ -1,5 +1,5 @@
 -- Grids and rows that callers make themselves.
-use Rattle.std.proofs.Common.{◌≡◌, ℕ, suc, ◌+◌, ◌-◌, ◌<◌, ◌≤◌, ◌⊎◌, Bool, true, false, ◌||◌, ◌&&◌, eqb, ltb, leb, List, ◌∷◌, [], ◌++◌, length, get_or, take, refl, sym, ap, subst, ◌∙◌, inl, inr, arith}
+use Rattle.std.proofs.Common.{◌≡◌, ℕ, ◌+◌, ◌-◌, ◌<◌, ◌≤◌, ◌⊎◌, true, ◌||◌, ◌&&◌, eqb, ltb, leb, List, length, get_or, take, sym, subst, inl, inr, arith}
 use Rattle.std.specs.Prelude.{All}
 use Rattle.std.proofs.lemmas.Bool.{cases_eq}
 use Rattle.std.proofs.lemmas.Bool.Decides.{nat_tests}
@@ -29,7 +29,7 @@ abbrev UpTo : List GridRow → ℕ → Type 0
 UpTo rows n = (a b : ℕ) (d : GridRow) → a < b → b < n → comes_before (get_or rows a d) (get_or rows b d) ≡ true
 
 up_to_more : (rows : List GridRow) (i a b : ℕ) (d e : GridRow) → 1 ≤ i → i < length rows → UpTo rows i → comes_before (get_or rows (i - 1) e) (get_or rows i e) ≡ true → a < b → b < i + 1 → (b ≡ i) ⊎ (b ≡ i → ⊥) → (a ≡ i - 1) ⊎ (a ≡ i - 1 → ⊥)
-  → comes_before (get_or rows a d) (get_or rows b d) ≡ true
+    → comes_before (get_or rows a d) (get_or rows b d) ≡ true
 up_to_more rows i a b d e pos h inv here ab bi (inr other) _ = inv a b d ab (omega arith)
 up_to_more rows i a b d e pos h inv here ab bi (inl last) (inl neighbour) =
     let before : i - 1 < length rows = omega arith in

@@ -1,11 +1,11 @@
 -- Words, and what is kept, are scanned as the grammar says.
-use Rattle.std.proofs.Common.{◌≡◌, ◌≢◌, ℕ, zero, suc, ◌+◌, ◌-◌, ◌*◌, ◌<◌, ◌≤◌, ◌⊎◌, Bool, true, false, cond, eqb, List, [], ◌∷◌, ◌++◌, length, drop, Result, Ok, Err, refl, sym, ap, subst, ◌∙◌, inl, inr, arith, drop-cons}
+use Rattle.std.proofs.Common.{◌≡◌, ℕ, ◌+◌, ◌-◌, ◌*◌, ◌<◌, ◌⊎◌, Bool, true, false, cond, eqb, List, [], ◌∷◌, ◌++◌, length, drop, Result, Ok, Err, refl, sym, ap, subst, ◌∙◌, inl, inr, arith, drop-cons}
 use Rattle.std.proofs.lemmas.Bool.{eqb-true, eqb-false, eq-eqb}
-use Rattle.zr_grid.specs.Grammar.{◌⨾◌, Word, Blanks, is_blank, is_digit, Digits, Spaced}
+use Rattle.zr_grid.specs.Grammar.{◌⨾◌, Word, is_digit, Digits, Spaced}
 use Rattle.zr_grid.specs.Scan.{◌>>=◌, word_at, skip, number_at, capped, digits_from}
-use Rattle.zr_grid.proofs.Sequence.{Dead, Found, Stuck, Scans, Scanned, Both, both_caps, pair, scans_both, scans_as, Apart}
-use Rattle.zr_grid.proofs.Bytes.{Each, Within, Starts, NeverEmpty, each_append, within_both, starts_first, is_byte, never_first}
-use Rattle.zr_grid.proofs.Leaves.{Gap, plain, dead_longer, dead_narrower, Trail, digits_found, number_longer, skip_at, scans_blanks, starts_blanks}
+use Rattle.zr_grid.proofs.Sequence.{Dead, Found, Scans, Scanned, Both, both_caps, pair, scans_both, scans_as, Apart}
+use Rattle.zr_grid.proofs.Bytes.{Each, Within, Starts, NeverEmpty, within_both, starts_first, is_byte, never_first}
+use Rattle.zr_grid.proofs.Leaves.{Gap, plain, dead_longer, dead_narrower, Trail, digits_found, skip_at, scans_blanks}
 
 pub word_short : (word : List ℕ) (i : ℕ) (rest : List ℕ) → i < length word → length rest < 1 → word_at (drop i word) rest ≡ Err 0
 word_short word i [] h short = rw (drop-cons word i 0) refl

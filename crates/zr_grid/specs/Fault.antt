@@ -1,5 +1,5 @@
 -- Where a text leaves its grammar.
-use Rattle.std.specs.Prelude.{◌≡◌, ℕ, ◌<◌, ◌≤◌, List, ◌++◌, length, take}
+use Rattle.std.specs.Prelude.{ℕ, ◌<◌, ◌≤◌, List, ◌++◌, length, take}
 
 -- some text of good form begins so
 abbrev pub Begins : (List ℕ → Type 0) → List ℕ → Type 0

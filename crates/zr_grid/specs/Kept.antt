@@ -1,5 +1,5 @@
 -- The grid filter.
-use Rattle.std.specs.Prelude.{◌≡◌, ℕ, zero, suc, ◌+◌, ◌-◌, Bool, true, false, ◌&&◌, ◌||◌, ◌==◌, nat_lt, nat_le, IsTrue, max, List, [], ◌∷◌, ◌++◌, take, drop, filter, fold, count_by, sum_by, replicate, AllPairs, Option, Some, None}
+use Rattle.std.specs.Prelude.{ℕ, suc, ◌+◌, ◌-◌, Bool, true, false, ◌&&◌, ◌||◌, ◌==◌, nat_lt, nat_le, IsTrue, max, List, [], ◌∷◌, take, drop, filter, fold, count_by, sum_by, replicate, AllPairs}
 use Rattle.std.specs.List.{flat_map}
 use Rattle.zr_grid.specs.declared.grid.Keep.{Keep}
 use Rattle.zr_grid.specs.declared.grid.Keep.TheVariants.{All, Most}

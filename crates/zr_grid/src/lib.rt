@@ -9,8 +9,11 @@ mod scan;
 mod span;
 
 pub use grid::{
-    GridFault, GridSpec, Interval, Intervals, Keep, MAX_INTERVALS, MAX_KEEP, read_grid,
+    GridFault, GridSpec, Interval, Intervals, Keep, MAX_INTERVALS, MAX_KEEP, is_grid, read_grid,
 };
 pub use kept::{GridRow, grid_keeps, is_ascending};
 pub use print::print_grid;
 pub use span::{MAX_SPAN, SpanFault, read_span};
+
+#[cfg(test)]
+mod tests;

@@ -1,4 +1,4 @@
-use Rattle.std.proofs.Common.{rules, arith}
+use Rattle.std.proofs.Common.{arith}
 use Rattle.zr_grid.specs.declared.grid.Interval.{Interval}
 use Rattle.zr_grid.specs.declared.grid.Keep.TheVariants.{All}
 use Rattle.zr_grid.proofs.Valid.{total_more, each_more}

@@ -1,4 +1,4 @@
-use Rattle.std.proofs.Common.{◌≡◌, ℕ, ◌<◌, ◌≤◌, ◌||◌, false, Some, length, get_or}
+use Rattle.std.proofs.Common.{◌≡◌, ℕ, ◌<◌, ◌≤◌, ◌||◌, false, Some, get_or}
 use Rattle.std.specs.Prelude.{slice_get}
 use Rattle.zr_grid.specs.declared.kept.GridRow.{GridRow}
 use Rattle.zr_grid.specs.Kept.{grid_kept}

@@ -1,4 +1,4 @@
-use Rattle.std.proofs.Common.{false, sym, ◌∙◌, rules}
+use Rattle.std.proofs.Common.{false, sym}
 use Rattle.zr_grid.specs.declared.kept.GridRow.{GridRow}
 use Rattle.zr_grid.proofs.Valid.{ascends}
 use Rattle.zr_grid.proofs.kept.is_ascending.Goals as goal

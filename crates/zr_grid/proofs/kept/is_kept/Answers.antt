@@ -1,6 +1,5 @@
-use Rattle.std.proofs.Common.{◌≡◌, ℕ, Option, Some, None, ap, ◌∙◌, rules}
-use Rattle.zr_grid.specs.declared.grid.Keep.{Keep}
-use Rattle.zr_grid.specs.Kept.{slots, age_of, has_room}
+use Rattle.std.proofs.Common.{◌≡◌, ℕ, Some, None, ap, ◌∙◌, rules}
+use Rattle.zr_grid.specs.Kept.{slots, has_room}
 use Rattle.zr_grid.specs.Place.{found}
 use Rattle.zr_grid.proofs.Places.{kept_some, kept_none, kept_no_match}
 use Rattle.zr_grid.proofs.kept.is_kept.Goals as goal
