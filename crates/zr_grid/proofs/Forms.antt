@@ -10,7 +10,7 @@ use Rattle.zr_grid.specs.declared.form.KeepForm.{KeepForm}
 use Rattle.zr_grid.specs.declared.form.KeepForm.TheVariants as forms
 use Rattle.zr_grid.specs.Grammar.{◌⨾◌, is_blank, is_digit, Blanks, Counted, Digits, Span, Spaced, Word, Kept, KeepPart, IntervalText}
 use Rattle.zr_grid.specs.Scan.{◌>>=◌, capped, word_at, number_at, counted_at, span_at, starts_with_byte, all_at, most_at, kept_at, brackets_at, keep_at, form_at}
-use Rattle.zr_grid.proofs.Sequence.{Scans, Scanned, Both, both_caps, pair, scans_both, scans_as, Apart}
+use Rattle.zr_grid.proofs.Sequence.{Scans, Scanned, Both, both_caps, pair, scans_both, scans_as, bind_assoc, Apart}
 use Rattle.zr_grid.proofs.Bytes.{Each, Within, Starts, NeverEmpty, each_append, apart, within_both, within_weaker, starts_first, byte_disjoint, blank_disjoint, disjoint_swap, disjoint_or, is_byte, is_of_span}
 use Rattle.zr_grid.proofs.Leaves.{Gap, plain, skip_at, scans_blanks, within_blanks, starts_blanks, scans_counted, within_counted, starts_counted, never_counted, within_digits}
 use Rattle.zr_grid.proofs.Words.{WordOf, word_scan, scans_word, within_word, starts_word, never_word, SpacedOf, spaced, scans_spaced, within_spaced, starts_spaced, never_spaced, scans_number, Misses, choice, opt_inside, opt_outside, starts_opt}
@@ -197,10 +197,6 @@ Inner keep = Blanks ⨾ Spaced (Word (codes "keep")) ⨾ Spaced (Word (codes "="
 
 abbrev inner_done : Result ((Unit {0} × (Unit {0} × (Unit {0} × (KeepForm × Unit {0})))) × List ℕ) ℕ → Result (KeepForm × List ℕ) ℕ
 inner_done scan = scan >>= λ x. keep_done (x.0.1.1.1.0, x.1)
-
-pub bind_assoc : {A B C : Type 0} (scan : Result A ℕ) (f : A → Result B ℕ) (g : B → Result C ℕ) → ((scan >>= f) >>= g) ≡ (scan >>= λ x. f x >>= g)
-bind_assoc (Ok x) f g = refl
-bind_assoc (Err left) f g = refl
 
 brackets_shape : (text : List ℕ) → brackets_at text ≡ inner_done (t0_at text)
 unfolding brackets_at

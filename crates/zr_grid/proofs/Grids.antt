@@ -6,11 +6,11 @@ use Rattle.zr_grid.specs.declared.grid.Interval.{Interval}
 use Rattle.zr_grid.specs.declared.form.Form.{Form}
 use Rattle.zr_grid.specs.Grammar.{◌⨾◌, Word, IntervalText, Grid}
 use Rattle.zr_grid.specs.Scan.{◌>>=◌, form_at, opt_at, grid_at}
-use Rattle.zr_grid.proofs.Sequence.{Scanned, Both, both_caps, both_here, scanned_as}
+use Rattle.zr_grid.proofs.Sequence.{Scanned, Both, both_caps, both_here, scanned_as, bind_assoc}
 use Rattle.zr_grid.proofs.Bytes.{apart, is_byte}
 use Rattle.zr_grid.proofs.Words.{Opt, opt_inside, opt_outside, starts_opt}
 use Rattle.zr_grid.proofs.Faults.{found_within}
-use Rattle.zr_grid.proofs.Forms.{cap_interval, scans_form, within_form, is_no_bar, bind_assoc, bar_disjoint}
+use Rattle.zr_grid.proofs.Forms.{cap_interval, scans_form, within_form, is_no_bar, bar_disjoint}
 
 -- ---- the grammar with its tail apart
 

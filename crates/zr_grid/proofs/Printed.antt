@@ -1,5 +1,5 @@
 -- What is printed of a grid spells it.
-use Rattle.std.proofs.Common.{◌≡◌, ℕ, ◌+◌, ◌-◌, ◌*◌, ◌/◌, ◌%◌, ◌^◌, ◌<◌, ◌≤◌, Bool, true, false, cond, eqb, List, [], ◌∷◌, ◌++◌, length, refl, sym, ap, subst, ◌∙◌, inl, inr, append_assoc, arith}
+use Rattle.std.proofs.Common.{Result, Ok, Err, ◌≡◌, ℕ, ◌+◌, ◌-◌, ◌*◌, ◌/◌, ◌%◌, ◌^◌, ◌<◌, ◌≤◌, ◌⊎◌, Bool, true, false, cond, eqb, List, [], ◌∷◌, ◌++◌, length, refl, sym, ap, subst, ◌∙◌, inl, inr, append_assoc, arith}
 use Rattle.std.specs.Prelude.{codes}
 use Rattle.std.specs.List.{AllByRecursion, flat_map}
 use Rattle.std.specs.Fmt.{decimal}
@@ -13,7 +13,12 @@ use Rattle.zr_grid.specs.declared.grid.Keep.{Keep}
 use Rattle.zr_grid.specs.declared.grid.Keep.TheVariants as keeps
 use Rattle.zr_grid.specs.declared.grid.TheConstants.{MAX_INTERVALS, MAX_KEEP}
 use Rattle.zr_grid.specs.Grammar.{is_digit, Blanks, Digits, Span, KeepPart, IntervalText, Grid, number_after}
-use Rattle.zr_grid.specs.Grid.{IsGrid, IsInterval, KeepsAtMost, total}
+use Rattle.std.specs.Prelude.{MatchResult}
+use Rattle.zr_grid.specs.declared.grid.GridSpec.{GridSpec}
+use Rattle.zr_grid.specs.declared.grid.GridFault.{GridFault}
+use Rattle.zr_grid.specs.declared.grid.GridFault.TheVariants.{BadGrid, GridTooBig, NoMemory}
+use Rattle.zr_grid.specs.declared.span.TheConstants.{MAX_SPAN}
+use Rattle.zr_grid.specs.Grid.{IsGrid, IsInterval, IsTooBig, KeepsAbove, KeepsAtMost, ReadsGrid, total}
 use Rattle.zr_grid.specs.Canonical.{keep_text, interval_text, next_text, grid_text}
 use Rattle.zr_grid.proofs.Bytes.{each_append}
 
@@ -152,3 +157,23 @@ printed (i ∷ is) some each few = printed_from [] i is tt each few
 -- the canonical text of a grid spells the grid
 pub grid_printed : (is : List Interval) (text : List ℕ) → text ≡ grid_text is → IsGrid is → Grid is text
 grid_printed is text e grid = subst (Grid is) (sym e) (printed is grid.some (recursion_from_All IsInterval is grid.each) grid.few)
+
+-- ---- read again
+
+not_over : (is : List Interval) → IsGrid is → IsTooBig is → ⊥
+not_over is grid (inl above) = let few = grid.few in omega arith
+not_over is grid (inr (k, x, h, e, over)) = over_one x (subst IsInterval e (grid.each k x h)) over
+  where
+    over_keep : (keep : Keep) → KeepsAtMost MAX_KEEP keep → KeepsAbove MAX_KEEP keep → ⊥
+    over_keep keeps.All within above = above
+    over_keep (keeps.Most n) within above = omega arith
+
+    over_one : (x : Interval) → IsInterval x → (MAX_SPAN < x.width) ⊎ KeepsAbove MAX_KEEP x.keep → ⊥
+    over_one x within (inl width) = let short = within.short in omega arith
+    over_one x within (inr keep) = over_keep x.keep within.keep keep
+
+pub read_again : (is : List Interval) (answer : Result GridSpec GridFault) → IsGrid is → ReadsGrid (grid_text is) answer → MatchResult answer (λ spec. spec.intervals ≡ is) (λ fault. fault ≡ NoMemory)
+read_again is (Ok spec) grid reads = sym ((reads.1 is).0 (grid_printed is (grid_text is) refl grid))
+read_again is (Err GridTooBig) grid reads = absurd (not_over is grid (reads.1 is (grid_printed is (grid_text is) refl grid)))
+read_again is (Err (BadGrid place)) grid reads = absurd (reads.bad (is, grid_printed is (grid_text is) refl grid))
+read_again is (Err NoMemory) grid reads = refl

@@ -211,6 +211,10 @@ pub scans_both : {A B C D : Type 0} (LA : A → List ℕ → Type 0) (LB : B →
     → Apart LA LB → (w : B) (some : List ℕ) → LB w some → Scans LA capA f → Scans LB capB g → Scans (Both LA LB) (both_caps capA capB) (pair f g)
 scans_both LA LB capA capB f g apart w some ls sf sg text = first LA LB capA capB g apart w some ls sg text (f text) (sf text)
 
+pub bind_assoc : {A B C : Type 0} (scan : Result A ℕ) (f : A → Result B ℕ) (g : B → Result C ℕ) → ((scan >>= f) >>= g) ≡ (scan >>= λ x. f x >>= g)
+bind_assoc (Ok x) f g = refl
+bind_assoc (Err left) f g = refl
+
 -- ---- the same form under other values
 
 dead_as : {V W : Type 0} (L : V → List ℕ → Type 0) (M : W → List ℕ → Type 0) → ((w : W) (t : List ℕ) → M w t → (v : V) × L v t) → (front rest : List ℕ) → Dead L front rest → Dead M front rest

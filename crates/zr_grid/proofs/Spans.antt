@@ -2,12 +2,12 @@
 use Rattle.std.proofs.Common.{◌≡◌, ℕ, zero, suc, ◌-◌, ◌*◌, ◌^◌, ◌<◌, ◌≤◌, true, ◌||◌, List, [], ◌∷◌, length, Result, Ok, Err, refl, sym, subst, ◌∙◌, inl, inr, arith}
 use Rattle.std.proofs.lemmas.Bool.{cases_lt, or_left, or_right}
 use Rattle.zr_grid.specs.Grammar.{is_blank, is_digit, Counted, UnitOf, Span}
-use Rattle.zr_grid.specs.Scan.{◌>>=◌, capped, skip, counted_at, unit_at, span_at}
+use Rattle.zr_grid.specs.Scan.{◌>>=◌, capped, counted_at, unit_at, span_at}
 use Rattle.zr_grid.specs.declared.span.SpanFault.TheVariants.{BadSpan, SpanTooBig}
 use Rattle.zr_grid.specs.declared.span.TheConstants.{MAX_SPAN}
 use Rattle.zr_grid.specs.Span.{ReadsSpan}
 use Rattle.zr_grid.proofs.Faults.{found_fault, stuck_fault, found_whole, nothing_left, something_left}
-use Rattle.zr_grid.proofs.Sequence.{Found, Stuck, Scans, Scanned, Both, both_caps, pair, scans_both, scans_as}
+use Rattle.zr_grid.proofs.Sequence.{Found, Stuck, Scans, Scanned, Both, both_caps, pair, scans_both, scans_as, bind_assoc}
 use Rattle.zr_grid.proofs.Bytes.{apart, within_both, starts_either, starts_first, NeverEmpty, Starts, blank_disjoint, unit_disjoint, disjoint_swap, disjoint_or, is_unit, is_of_span, Within, within_weaker, never_both, never_after}
 use Rattle.zr_grid.proofs.Leaves.{Gap, plain, exact, skip_at, scans_blanks, within_blanks, starts_blanks, scans_counted, within_counted, starts_counted, never_counted, scans_unit, within_unit, starts_unit, never_unit, unit_positive}
 
@@ -118,35 +118,12 @@ within_span s t l = let v = from_span s t l in within_whole v.0 t v.1
 
 -- ---- the scan
 
-abbrev paired : {A B : Type 0} → A → Result (B × List ℕ) ℕ → Result ((A × B) × List ℕ) ℕ
-paired a scan = scan >>= λ b. Ok ((a, b.0), b.1)
-
-abbrev ended : Result (ℕ × List ℕ) ℕ → Result ((ℕ × Unit {0}) × List ℕ) ℕ
-ended scan = scan >>= λ a. Ok ((a.0, tt), skip a.1)
-
 abbrev valued : Result ((Unit {0} × (ℕ × (Unit {0} × (ℕ × Unit {0})))) × List ℕ) ℕ → Result (ℕ × List ℕ) ℕ
 valued scan = scan >>= λ x. Ok (capped_seconds x.0, x.1)
 
-abbrev product : ℕ → Result (ℕ × List ℕ) ℕ → Result (ℕ × List ℕ) ℕ
-product n scan = scan >>= λ x. Ok (capped (n * x.0), skip x.1)
-
-shape_unit : (n : ℕ) (u : Result (ℕ × List ℕ) ℕ) → product n u ≡ valued (paired tt (paired n (paired tt (ended u))))
-shape_unit n (Ok x) = refl
-shape_unit n (Err left) = refl
-
-abbrev after_number : Result (ℕ × List ℕ) ℕ → Result ((ℕ × (Unit {0} × (ℕ × Unit {0}))) × List ℕ) ℕ
-after_number scan = scan >>= λ a. pair skip_at (pair unit_at skip_at) a.1 >>= λ b. Ok ((a.0, b.0), b.1)
-
-abbrev spec_after : Result (ℕ × List ℕ) ℕ → Result (ℕ × List ℕ) ℕ
-spec_after scan = scan >>= λ n. unit_at (skip n.1) >>= λ x. Ok (capped (n.0 * x.0), skip x.1)
-
-shape : (scan : Result (ℕ × List ℕ) ℕ) → spec_after scan ≡ valued (paired tt (after_number scan))
-shape (Ok n) = shape_unit n.0 (unit_at (skip n.1))
-shape (Err left) = refl
-
-span_at_is : (text : List ℕ) → span_at text ≡ (pair skip_at (pair counted_at (pair skip_at (pair unit_at skip_at))) text >>= λ x. Ok (capped_seconds x.0, x.1))
+span_at_is : (text : List ℕ) → span_at text ≡ valued (pair skip_at (pair counted_at (pair skip_at (pair unit_at skip_at))) text)
 unfolding span_at
-span_at_is text = shape (counted_at (skip text))
+span_at_is text = simp bind_assoc
 
 pub scans_span : Scans Span capped span_at
 scans_span text = subst (Scanned Span capped text) (sym (span_at_is text))

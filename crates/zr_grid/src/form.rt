@@ -7,14 +7,14 @@ use crate::scan::{Stop, counted, leading_digits, skip_blanks};
 use crate::span::span;
 
 /// What is kept, with any number: one above 64 bits is as good as the greatest.
-#[derive(Clone, Copy, Debug, PartialEq, Eq)]
+#[derive(Clone, Copy)]
 pub enum KeepForm {
     All,
     Most(u64),
 }
 
 /// What an interval's text says, before any limit but that of 64 bits.
-#[derive(Clone, Copy, Debug, PartialEq, Eq)]
+#[derive(Clone, Copy)]
 pub struct Form {
     pub count: u64,
     pub width: u64,

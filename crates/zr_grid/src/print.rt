@@ -3,11 +3,15 @@
 ghost use Rattle.std.specs.Prelude.{◌≡◌, ◌++◌, OnOk, IfOk};
 ghost use Rattle.std.specs.List.{flat_map};
 ghost use Rattle.std.specs.String.{string_bytes};
-ghost use Rattle.zr_grid.specs.Grid.{IsGrid};
+ghost use Rattle.std.specs.Prelude.{List, Result, MatchResult};
+ghost use Rattle.zr_grid.specs.declared.grid.Interval.{Interval as IntervalValue};
+ghost use Rattle.zr_grid.specs.declared.grid.GridSpec.{GridSpec as GridSpecValue};
+ghost use Rattle.zr_grid.specs.declared.grid.GridFault.{GridFault as GridFaultValue};
+ghost use Rattle.zr_grid.specs.Grid.{IsGrid, ReadsGrid};
 ghost use Rattle.zr_grid.specs.Grammar.{Grid};
 ghost use Rattle.zr_grid.specs.Canonical.{interval_text, next_text, grid_text};
 
-use crate::grid::{GridSpec, Interval, Keep};
+use crate::grid::{GridFault, GridSpec, Interval, Keep};
 use std::alloc::{AllocError, Global};
 
 fn print_interval(text: &mut String, interval: &Interval) -> Result<(), AllocError>
@@ -50,3 +54,9 @@ pub fn print_grid(alloc: Global, spec: &GridSpec) -> Result<Vec<u8>, AllocError>
 {
     print_intervals(alloc, spec.intervals.as_slice())
 }
+
+/// What `print_grid` writes of a grid, `read_grid` reads as that grid, unless memory runs out.
+pub fn printed_grid_is_read_again()
+    ensures { (intervals : List IntervalValue) (answer : Result GridSpecValue GridFaultValue) → IsGrid intervals → ReadsGrid (grid_text intervals) answer
+        → MatchResult answer (λ spec. spec.intervals ≡ intervals) (λ fault. fault ≡ GridFault.NoMemory) }
+{}

@@ -5,7 +5,7 @@ ghost use Rattle.zr_grid.specs.Grammar.{unit_of};
 ghost use Rattle.zr_grid.specs.Scan.{Gives, skip, digits_from, counted_at, unit_at};
 
 /// How many bytes were left at the place where the text cannot go on.
-#[derive(Clone, Copy, Debug, PartialEq, Eq)]
+#[derive(Clone, Copy)]
 pub struct Stop {
     pub left: usize,
 }
