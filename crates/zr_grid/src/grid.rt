@@ -1,7 +1,6 @@
 //! Retention grids, as `1x1h(keep=all) | 24x1h`.
 
-ghost use Rattle.std.specs.Prelude.{◌≡◌};
-ghost use Rattle.std.specs.Prelude.{if◌then◌else◌, Some, None, IsTrue, ◌↔◌};
+ghost use Rattle.std.specs.Prelude.{◌≡◌, ◌↔◌, if◌then◌else◌, IsTrue, Some, None};
 ghost use Rattle.zr_grid.specs.Scan.{GivesForms};
 ghost use Rattle.zr_grid.specs.Build.{is_big_form, interval_from, Builds, IsLeft, fault_of};
 ghost use Rattle.zr_grid.specs.Grid.{ReadsGrid, IsInterval, IsGrid, KeepsAtMost};

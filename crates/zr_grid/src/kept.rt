@@ -1,8 +1,7 @@
 //! The snapshots that a grid keeps.
 
-ghost use Rattle.std.specs.Prelude.{◌≡◌, ℕ, ◌+◌, ◌<◌, ◌≤◌, ◌||◌, ◌&&◌, false, length, fold, max, filter, count_by, take, drop, slice_index_or, Bool};
+ghost use Rattle.std.specs.Prelude.{◌≡◌, ℕ, ◌+◌, ◌<◌, ◌≤◌, ◌||◌, ◌&&◌, false, length, fold, max, filter, count_by, slice_get, slice_index_or, IsTrue, ◌↔◌};
 ghost use Rattle.std.specs.Option.{option_map};
-ghost use Rattle.std.specs.Prelude.{slice_get, IsTrue, ◌↔◌};
 ghost use Rattle.zr_grid.specs.declared.kept.GridRow.{GridRow as RowValue};
 ghost use Rattle.zr_grid.specs.Grid.{IsGrid};
 ghost use Rattle.zr_grid.specs.Kept.{newest, grid_kept, slots, slots_keep, age_of, lies_in, is_in, has_room, is_older, is_twin, older_in, comes_before, IsAscending};

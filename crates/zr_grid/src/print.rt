@@ -1,9 +1,8 @@
 //! The canonical text of a grid.
 
-ghost use Rattle.std.specs.Prelude.{◌≡◌, ◌++◌, OnOk, IfOk};
+ghost use Rattle.std.specs.Prelude.{◌≡◌, ◌++◌, List, Result, OnOk, IfOk, MatchResult};
 ghost use Rattle.std.specs.List.{flat_map};
 ghost use Rattle.std.specs.String.{string_bytes};
-ghost use Rattle.std.specs.Prelude.{List, Result, MatchResult};
 ghost use Rattle.zr_grid.specs.declared.grid.Interval.{Interval as IntervalValue};
 ghost use Rattle.zr_grid.specs.declared.grid.GridSpec.{GridSpec as GridSpecValue};
 ghost use Rattle.zr_grid.specs.declared.grid.GridFault.{GridFault as GridFaultValue};
