@@ -181,3 +181,28 @@ fn of_equal_rows_the_earlier_is_older(rt: HostRuntime) -> Result<(), Fail> {
     assert_eq!(rt; marks, [true, false, false]);
     Ok(())
 }
+
+#[test]
+fn a_grid_made_by_hand(rt: HostRuntime) -> Result<(), Fail> {
+    let week = Interval {
+        count: 7,
+        width: 86_400,
+        keep: Keep::Most(1),
+    };
+    let grid = GridSpec {
+        intervals: Intervals::from_vec([week].to_vec(rt.alloc())?),
+    };
+    assert!(rt; is_grid(&grid));
+    assert_eq!(rt;
+        print_grid(rt.alloc(), &grid)?.as_slice(),
+        b"7x86400s".as_slice()
+    );
+    let GridSpec { intervals } = grid.clone()?;
+    assert_eq!(rt; intervals.into_vec().as_slice(), [week].as_slice());
+    let empty = GridSpec {
+        intervals: Intervals::from_vec(Vec::new(rt.alloc())),
+    };
+    assert!(rt; !is_grid(&empty));
+    assert_eq!(rt; print_grid(rt.alloc(), &empty)?.as_slice(), b"".as_slice());
+    Ok(())
+}
