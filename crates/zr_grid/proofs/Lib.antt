@@ -1,0 +1,12 @@
+pub mod Sequence
+pub mod Bytes
+pub mod Leaves
+pub mod Words
+pub mod Spans
+pub mod Forms
+pub mod Grids
+pub mod Limits
+pub mod Printed
+pub mod Valid
+pub mod Faults
+pub mod Places
