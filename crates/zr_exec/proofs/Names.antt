@@ -65,7 +65,7 @@ is_name-passes is_bad limit text name =
     let good : has_bad_place is_bad text (length text) ≡ false = no_bad-place is_bad text (length text) name.no_place_bad in
     rw (some, short, good) refl
 
-nonempty : (text : List ℕ) → same_text text [] ≡ false → 0 < length text
+pub nonempty : (text : List ℕ) → same_text text [] ≡ false → 0 < length text
 nonempty [] e = cc
 nonempty (b ∷ bs) e = omega arith
 
