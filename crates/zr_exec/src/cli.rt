@@ -102,14 +102,15 @@ fn answer(alloc: Global, cmd: &Cmd, exit: RunExit, out: &[u8]) -> Answer
 }
 
 impl<S: Spawn> Zfs for CliZfs<S> {
-    ghost use Rattle.std.specs.Prelude.{None};
+    ghost use Rattle.zr_exec.specs.Entries.{entries_of};
 
     ghost faults = { λ c. S.faults c };
 
-    ghost pools = { λ _. None };
+    ghost pools = { λ c. S.pools c };
 
-    ghost told = { λ _. None };
+    ghost told = { λ c. entries_of (S.told c) };
 
+    #[tactic(auto, using(crate::proofs::Answers::begin_told))]
     fn begin(&mut self, unit: &Unit, run: u64) -> Result<(), NoMemory> {
         self.spawn.begin(unit, run)
     }
