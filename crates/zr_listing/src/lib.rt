@@ -12,3 +12,6 @@ mod lines;
 pub mod print;
 pub mod sets;
 pub mod versions;
+
+#[cfg(test)]
+mod tests;
