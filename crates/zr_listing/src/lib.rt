@@ -11,7 +11,6 @@ pub mod faults;
 mod lines;
 pub mod print;
 pub mod sets;
-pub mod versions;
-
 #[cfg(test)]
 mod tests;
+pub mod versions;

@@ -82,7 +82,10 @@ const VERSIONS: [(&[u8], Want); 37] = [
     (b"tank/a@s\t1\t2\t3\t7\ntank/a@s\t4\t5\t6\t0\n", Err(2)),
     (b"tank/a@s\t1\t2\t3\t7\ntank/a@t\t1\t2\t3\t7\n", Ok(2)),
     (b"tank/a@s\t1\t2\t3\t7\ntank/b@t\t1\t2\t3\t7\nx\n", Err(2)),
-    (b"tank/a@s\t1\t2\t3\t7\ntank/a@t\t1\t2\t3\t7\ntank/a@s", Err(3)),
+    (
+        b"tank/a@s\t1\t2\t3\t7\ntank/a@t\t1\t2\t3\t7\ntank/a@s",
+        Err(3),
+    ),
 ];
 
 fn path(rt: &impl Abort, alloc: Global, text: &str) -> Path {
@@ -118,7 +121,10 @@ fn rows_of_datasets(rt: HostRuntime) -> Result<(), Fail> {
     let token = rows[1].token.as_ref().expect(&rt, "a token");
     assert_eq!(rt; token.as_bytes(), b"1-e2-x".as_slice());
     let text = print_sets(alloc, rows)?;
-    assert_eq!(rt; text.as_slice(), b"tank/b\ton\t-\ntank\t-\t1-e2-x\n".as_slice());
+    assert_eq!(rt;
+        text.as_slice(),
+        b"tank/b\ton\t-\ntank\t-\t1-e2-x\n".as_slice()
+    );
     Ok(())
 }
 
@@ -127,14 +133,19 @@ fn rows_of_datasets(rt: HostRuntime) -> Result<(), Fail> {
 fn rows_of_versions(rt: HostRuntime) -> Result<(), Fail> {
     let alloc = rt.alloc();
     let asked = path(&rt, alloc, "tank/a");
-    let bytes = b"tank/a#a\t11\t5\t100\t-\ntank/a@c\t12\t9\t300\t2\ntank/a@b\t11\t5\t100\t0\ntank/a@a\t10\t5\t90\t1\n";
+    let bytes =
+        b"tank/a#a\t11\t5\t100\t-\ntank/a@c\t12\t9\t300\t2\ntank/a@b\t11\t5\t100\t0\ntank/a@a\t10\t5\t90\t1\n";
     let rows = read_versions(alloc, &asked, bytes)?;
     let text = print_versions(alloc, &asked, rows.as_slice())?;
-    let want = b"tank/a@a\t10\t5\t90\t1\ntank/a@b\t11\t5\t100\t0\ntank/a#a\t11\t5\t100\t-\ntank/a@c\t12\t9\t300\t2\n";
+    let want =
+        b"tank/a@a\t10\t5\t90\t1\ntank/a@b\t11\t5\t100\t0\ntank/a#a\t11\t5\t100\t-\ntank/a@c\t12\t9\t300\t2\n";
     assert_eq!(rt; text.as_slice(), want.as_slice());
     let rows = rows.as_slice();
     assert_eq!(rt; rows.len(), 4);
-    assert_eq!(rt; (rows[3].guid.0, rows[3].txg, rows[3].creation, rows[3].refs), (12, 9, 300, 2));
+    assert_eq!(rt;
+        (rows[3].guid.0, rows[3].txg, rows[3].creation, rows[3].refs),
+        (12, 9, 300, 2)
+    );
     assert_eq!(rt; rows[2].refs, 0);
     assert!(rt; matches!(rows[2].name, VersionName::Mark(_)));
     Ok(())
