@@ -37,8 +37,8 @@ parted-first byte text i first =
     let inside : i < length text = at.0 in
     let whole : text ≡ take i text ++ get_or text i 0 ∷ drop (i + 1) text = sym (take-append-drop i text) ∙ ap (λ l. take i text ++ l) (drop_more text i 0 inside) in
     let lacks : All (λ b. (b == byte) ≡ false) (take i text) = λ k d below.
-        let low : k < i = omega (arith, length-take i text) in
-        rw (get_or-take i text k d low) (rw (get_or_default text k d 0 (omega arith)) (at.2 k low)) in
+    let low : k < i = omega (arith, length-take i text) in
+    rw (get_or-take i text k d low) (rw (get_or_default text k d 0 (omega arith)) (at.2 k low)) in
     rw (take_rest text (i + 1)) (ap (parted byte) whole ∙ slice_split_at p (take i text) (get_or text i 0) (drop (i + 1) text) lacks at.1)
 
 -- a text has a part at least

@@ -18,7 +18,7 @@ returns-in_err-rows-clause-none c = λ garbled rows is.
     let bad : IfErr c.from_residual.result (IsBadAt (IsVersionLine path) full bytes) = search rules in
     let apart : NamesDiffer full rows = λ i j d less inside same. is.in_order.names_differ i j d less inside (full_name-one path _ _ same) in
     garbled-none (IsVersionLine path) (IsVersionLine-one path) full bytes c.from_residual.result bad garbled is.listed is.lines
-      (differ-permutation full rows is.listed (IsPermutation-sym is.listed rows is.same_rows) apart)
+    (differ-permutation full rows is.listed (IsPermutation-sym is.listed rows is.same_rows) apart)
 
 in-order : (c : After-from_vec) → IsVersionList c.from_vec.result
 in-order c =
