@@ -133,9 +133,9 @@ told old new words command ended bytes (answer.Garbled n) spelled now is =
 
 short-told : (old new : Option (List Line)) (words : List (List ℕ)) (command : Cmd) (bytes : List ℕ) (given : Answer) → Spells words command → Records old new words exit.NoMemory bytes → IsAnswer command exit.NoMemory bytes given → Logs (entries_of old) (entries_of new) command given
 short-told old new words command bytes answer.NoMemory spelled records is = elim records [
-    | inl same ↦ inl (ap entries_of same)
-    | inr kept ↦ inr (answer_of command kept.0 kept.1, call-read old new words command kept.0 kept.1 spelled kept.2)
-  ]
+  | inl same ↦ inl (ap entries_of same)
+  | inr kept ↦ inr (answer_of command kept.0 kept.1, call-read old new words command kept.0 kept.1 spelled kept.2)
+]
 short-told old new words command bytes (answer.Done r) spelled records is = absurd is
 short-told old new words cmd.Sets bytes answer.Failed spelled records is = absurd is
 short-told old new words (cmd.Versions path) bytes answer.Failed spelled records is = absurd is
@@ -156,7 +156,7 @@ spelled argv program command same named = record { same = ap (drop 1) same; name
 pub run_logs : (first old new : Option (List Line)) (argv : List (List ℕ)) (program : List ℕ) (command : Cmd) (ended : RunExit) (bytes : List ℕ) (given : Answer) → old ≡ first → argv ≡ program ∷ words_of command → IsNamed command → Records old new (drop 1 argv) ended bytes → IsAnswer command ended bytes given → Logs (entries_of first) (entries_of new) command given
 run_logs first old new argv program command ended bytes given begun same named records is =
     subst (λ (t : Option (List Line)). Logs (entries_of t) (entries_of new) command given) begun
-      (logs old new (drop 1 argv) command ended bytes given (spelled argv program command same named) records is)
+    (logs old new (drop 1 argv) command ended bytes given (spelled argv program command same named) records is)
 
 one-reply : (command : Cmd) (bytes : List ℕ) (one other : Reply) → IsReply command bytes one → IsReply command bytes other → one ≡ other
 one-reply command bytes one other p q =
@@ -186,4 +186,4 @@ acts (Some before) (Some after) words command ended bytes given spelled serves i
 pub run_acts : (first old new : Option Pools) (argv : List (List ℕ)) (program : List ℕ) (command : Cmd) (ended : RunExit) (bytes : List ℕ) (given : Answer) → old ≡ first → argv ≡ program ∷ words_of command → IsNamed command → Serves (drop 1 argv) old new ended bytes → IsAnswer command ended bytes given → Acts command first new given
 run_acts first old new argv program command ended bytes given begun same named serves is =
     subst (λ (p : Option Pools). Acts command p new given) begun
-      (acts old new (drop 1 argv) command ended bytes given (spelled argv program command same named) serves is)
+    (acts old new (drop 1 argv) command ended bytes given (spelled argv program command same named) serves is)

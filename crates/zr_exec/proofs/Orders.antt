@@ -80,13 +80,13 @@ in_place-same row (next ∷ rows) = choose (is_lt (row_cmp row next)) (in_place-
   choose true rest = IsPermutation-refl (row ∷ next ∷ rows)
   choose false rest =
       IsPermutation-trans (row ∷ next ∷ rows) (next ∷ row ∷ rows) (next ∷ in_place row rows)
-        (IsPermutation-swap (row ∷ next ∷ rows) (next ∷ row ∷ rows) 0 1 (omega arith) (omega arith) refl)
-        (IsPermutation-cons next (row ∷ rows) (in_place row rows) rest)
+      (IsPermutation-swap (row ∷ next ∷ rows) (next ∷ row ∷ rows) 0 1 (omega arith) (omega arith) refl)
+      (IsPermutation-cons next (row ∷ rows) (in_place row rows) rest)
 
 -- rows put into order are the same rows
 pub in_order-same : (rows : List VersionRow) → IsPermutation rows (in_order rows)
 in_order-same [] = IsPermutation-refl []
 in_order-same (row ∷ rows) =
     IsPermutation-trans (row ∷ rows) (row ∷ in_order rows) (in_order (row ∷ rows))
-      (IsPermutation-cons row rows (in_order rows) (in_order-same rows))
-      (in_place-same row (in_order rows))
+    (IsPermutation-cons row rows (in_order rows) (in_order-same rows))
+    (in_place-same row (in_order rows))

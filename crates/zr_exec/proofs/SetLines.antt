@@ -45,9 +45,9 @@ set_row_of-spelled line row is =
     let name : is_name path_is_bad PATH_LIMIT is.path ≡ true = is_name-passes path_is_bad PATH_LIMIT is.path (subst (IsName path_is_bad PATH_LIMIT) (sym is.is_path.0) is.is_path.1) in
     let flag : same_text is.flag [] ≡ false = filled is.flag is.not_empty in
     let same : set-row is.path (same_text is.flag (codes "on")) (token_in is.token) ≡ row =
-        ap (λ x. set-row x (same_text is.flag (codes "on")) (token_in is.token)) is.is_path.0
-        ∙ ap (λ x. set-row row.path x (token_in is.token)) (sym is.placeholder)
-        ∙ ap (λ x. set-row row.path row.placeholder x) token.1 in
+    ap (λ x. set-row x (same_text is.flag (codes "on")) (token_in is.token)) is.is_path.0
+    ∙ ap (λ x. set-row row.path x (token_in is.token)) (sym is.placeholder)
+    ∙ ap (λ x. set-row row.path row.placeholder x) token.1 in
     ap set_of is.spelled ∙ rw (name, flag, token.0) (ap Some same)
 
 set-sound : (line : List ℕ) (parts : List (List ℕ)) (row : SetRow) → columns line ≡ parts → set_of parts ≡ Some row → IsSetLine line row

@@ -36,13 +36,13 @@ stands-once : (m n : ℕ) (a b : VersionName) → stands_before m a n b ≡ true
 stands-once m n a b one other =
     elim (or-cases (nat_lt m n) ((m == n) && name_is_below a b) one) [
       | inl less ↦ elim (or-cases (nat_lt n m) ((n == m) && name_is_below b a) other) [
-          | inl more ↦ (let x : m < n = grind (arith, nat_tests) in let y : n < m = grind (arith, nat_tests) in absurd (omega arith))
-          | inr tied ↦ (let same = (and-both (n == m) (name_is_below b a) tied).0 in let x : m < n = grind (arith, nat_tests) in let y : n ≡ m = grind (arith, nat_tests) in absurd (omega arith))
-        ]
+        | inl more ↦ (let x : m < n = grind (arith, nat_tests) in let y : n < m = grind (arith, nat_tests) in absurd (omega arith))
+        | inr tied ↦ (let same = (and-both (n == m) (name_is_below b a) tied).0 in let x : m < n = grind (arith, nat_tests) in let y : n ≡ m = grind (arith, nat_tests) in absurd (omega arith))
+      ]
       | inr tie ↦ elim (or-cases (nat_lt n m) ((n == m) && name_is_below b a) other) [
-          | inl more ↦ (let same = (and-both (m == n) (name_is_below a b) tie).0 in let x : n < m = grind (arith, nat_tests) in let y : m ≡ n = grind (arith, nat_tests) in absurd (omega arith))
-          | inr tied ↦ name-once a b (and-both (m == n) (name_is_below a b) tie).1 (and-both (n == m) (name_is_below b a) tied).1
-        ]
+        | inl more ↦ (let same = (and-both (m == n) (name_is_below a b) tie).0 in let x : n < m = grind (arith, nat_tests) in let y : m ≡ n = grind (arith, nat_tests) in absurd (omega arith))
+        | inr tied ↦ name-once a b (and-both (m == n) (name_is_below a b) tie).1 (and-both (n == m) (name_is_below b a) tied).1
+      ]
     ]
 
 Stands : VersionRow → VersionRow → Type 0
@@ -79,9 +79,9 @@ All-In : (low row : VersionRow) (rows : List VersionRow) → All (Stands low) ro
 unfolding In Stands
 All-In low row [] each is = absurd is
 All-In low row (first ∷ rows) each is = elim is [
-    | inl here ↦ subst (λ (r : VersionRow). stands_before low.txg low.name r.txg r.name ≡ true) here (All-head (λ (r : VersionRow). stands_before low.txg low.name r.txg r.name ≡ true) first rows each)
-    | inr later ↦ All-In low row rows (All-tail (λ (r : VersionRow). stands_before low.txg low.name r.txg r.name ≡ true) first rows each) later
-  ]
+  | inl here ↦ subst (λ (r : VersionRow). stands_before low.txg low.name r.txg r.name ≡ true) here (All-head (λ (r : VersionRow). stands_before low.txg low.name r.txg r.name ≡ true) first rows each)
+  | inr later ↦ All-In low row rows (All-tail (λ (r : VersionRow). stands_before low.txg low.name r.txg r.name ≡ true) first rows each) later
+]
 
 Within : List VersionRow → List VersionRow → Type 0
 Within xs ys = (row : VersionRow) → In row xs → In row ys
@@ -90,11 +90,11 @@ Within xs ys = (row : VersionRow) → In row xs → In row ys
 within-tails : (x y : VersionRow) (xs ys : List VersionRow) → y ≡ x → All (Stands x) xs → Within (x ∷ xs) (y ∷ ys) → Within xs ys
 unfolding In Within
 within-tails x y xs ys same each within row is = elim (within row (inr is)) [
-    | inl here ↦ (let low : Stands x row = All-In x row xs each is in
-        let itself : x ≡ row = sym same ∙ here in
-        absurd (stands-apart x row low (subst (λ (r : VersionRow). Stands row r) (sym itself) (subst (λ (r : VersionRow). Stands r row) itself low))))
-    | inr later ↦ later
-  ]
+  | inl here ↦ (let low : Stands x row = All-In x row xs each is in
+      let itself : x ≡ row = sym same ∙ here in
+      absurd (stands-apart x row low (subst (λ (r : VersionRow). Stands row r) (sym itself) (subst (λ (r : VersionRow). Stands r row) itself low))))
+  | inr later ↦ later
+]
 
 -- rows in order are those of one list
 one-order : (xs ys : List VersionRow) → AllPairs Stands xs → AllPairs Stands ys → Within xs ys → Within ys xs → xs ≡ ys
@@ -104,15 +104,15 @@ one-order [] (y ∷ ys) p q there back = absurd (back y (inl refl))
 one-order (x ∷ xs) [] p q there back = absurd (there x (inl refl))
 one-order (x ∷ xs) (y ∷ ys) p q there back =
     let first : y ≡ x = elim (there x (inl refl)) [
-        | inl here ↦ here
-        | inr later ↦ elim (back y (inl refl)) [
-            | inl here ↦ sym here
-            | inr behind ↦ absurd (stands-apart x y (All-In x y xs (AllPairs-head Stands x xs p) behind) (All-In y x ys (AllPairs-head Stands y ys q) later))
-          ]
-      ] in
+      | inl here ↦ here
+      | inr later ↦ elim (back y (inl refl)) [
+        | inl here ↦ sym here
+        | inr behind ↦ absurd (stands-apart x y (All-In x y xs (AllPairs-head Stands x xs p) behind) (All-In y x ys (AllPairs-head Stands y ys q) later))
+      ]
+    ] in
     let rest = one-order xs ys (AllPairs-tail Stands x xs p) (AllPairs-tail Stands y ys q)
-        (within-tails x y xs ys first (AllPairs-head Stands x xs p) there)
-        (within-tails y x ys xs (sym first) (AllPairs-head Stands y ys q) back) in
+    (within-tails x y xs ys first (AllPairs-head Stands x xs p) there)
+    (within-tails y x ys xs (sym first) (AllPairs-head Stands y ys q) back) in
     cc
 
 within-same : (xs ys : List VersionRow) → IsPermutation xs ys → Within xs ys

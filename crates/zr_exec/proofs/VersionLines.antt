@@ -80,10 +80,10 @@ version_row_of-spelled path line row is =
     let creation = number-read is.creation row.creation is.is_creation in
     let refs = refs-read row.name is.refs row.refs is.is_refs in
     let same : version-row row.name (number_in is.guid) (number_in is.txg) (number_in is.creation) (refs_in row.name is.refs) ≡ row =
-        ap (λ x. version-row row.name x (number_in is.txg) (number_in is.creation) (refs_in row.name is.refs)) guid.1
-        ∙ ap (λ x. version-row row.name row.guid.0 x (number_in is.creation) (refs_in row.name is.refs)) txg.1
-        ∙ ap (λ x. version-row row.name row.guid.0 row.txg x (refs_in row.name is.refs)) creation.1
-        ∙ ap (λ x. version-row row.name row.guid.0 row.txg row.creation x) refs.1 in
+    ap (λ x. version-row row.name x (number_in is.txg) (number_in is.creation) (refs_in row.name is.refs)) guid.1
+    ∙ ap (λ x. version-row row.name row.guid.0 x (number_in is.creation) (refs_in row.name is.refs)) txg.1
+    ∙ ap (λ x. version-row row.name row.guid.0 row.txg x (refs_in row.name is.refs)) creation.1
+    ∙ ap (λ x. version-row row.name row.guid.0 row.txg row.creation x) refs.1 in
     ap (version_of path) is.spelled
     ∙ ap (λ n. version_named n is.guid is.txg is.creation is.refs) (name-read path is.name row.name is.is_name)
     ∙ rw (guid.0, txg.0, creation.0, refs.0) (ap Some same)

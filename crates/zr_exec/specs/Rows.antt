@@ -17,9 +17,9 @@ rows_in row_of name before [] = Err (length before + 1)
 rows_in row_of name before (last ∷ []) = if same_text last [] then Ok before else Err (length before + 1)
 rows_in row_of name before (line ∷ later) =
     option_map_or
-      (λ row. if is_listed name before (name row) then Err (length before + 1) else rows_in row_of name (before ++ row ∷ []) later)
-      (row_of line)
-      (Err (length before + 1))
+    (λ row. if is_listed name before (name row) then Err (length before + 1) else rows_in row_of name (before ++ row ∷ []) later)
+    (row_of line)
+    (Err (length before + 1))
 
 -- rows in order, with one more in its place
 abbrev pub in_place : VersionRow → List VersionRow → List VersionRow
