@@ -1,7 +1,7 @@
-use Rattle.std.proofs.Common.{◌≡◌, ◌≢◌, ℕ, zero, suc, ◌+◌, ◌<◌, ◌≤◌, List, [], ◌∷◌, ◌++◌, length, get_or, refl, arith, ap, ◌∙◌, sym, subst, length-append, Any, Result, Ok, Err, IfErr}
+use Rattle.std.proofs.Common.{◌≡◌, ◌≢◌, ℕ, ◌<◌, List, [], ◌∷◌, ◌++◌, length, get_or, refl, arith, ap, ◌∙◌, sym, subst, length-append, Result, Ok, Err, IfErr}
 use Rattle.std.specs.List.{AllZip}
 use Rattle.std.proofs.lemmas.List.{append_cancel_right, get_or_append_left, get_or_at}
-use Rattle.zr_listing.specs.Lines.{lines_of, NamesDiffer, Lines, IsFirstBad, IsBadAt}
+use Rattle.zr_listing.specs.Lines.{NamesDiffer, Lines, IsFirstBad, IsBadAt}
 use Rattle.zr_listing.specs.Listing.{IsGarbled}
 use Rattle.zr_listing.specs.declared.faults.ListFault.{ListFault}
 use Rattle.zr_listing.specs.declared.faults.ListFault.TheVariants as fault

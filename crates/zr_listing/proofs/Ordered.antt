@@ -1,8 +1,9 @@
-use Rattle.std.proofs.Common.{◌≡◌, ◌≢◌, ℕ, zero, suc, ◌+◌, ◌<◌, ◌≤◌, Bool, true, false, List, [], ◌∷◌, ◌++◌, length, get_or, refl, arith, ap, ◌∙◌, sym, subst, ◌⊎◌, inl, inr, AllPairs, Contains, IsPermutation}
-use Rattle.std.proofs.lemmas.List.{get_or_default}
+use Rattle.std.proofs.Common.{◌≡◌, ℕ, zero, suc, ◌==◌, ◌&&◌, ◌||◌, nat_lt, Bool, true, false, List, [], ◌∷◌, refl, arith, ap, ◌∙◌, sym, subst, ◌⊎◌, inl, inr, AllPairs, Contains, IsPermutation}
 use Rattle.std.proofs.lemmas.List.Sorted.{IsPermutation-sym, IsPermutation-trans, Contains-permutation}
 use Rattle.std.specs.Cmp.Lexicographic.{slice_cmp, nat_list_cmp_total}
-use Rattle.std.specs.Ordering.{nat_cmp, is_lt}
+use Rattle.std.specs.Ordering.{nat_cmp, is_lt, ordering_reverse}
+use Rattle.std.specs.declared.cmp.Ordering.{Ordering}
+use Rattle.std.specs.declared.cmp.Ordering.TheVariants.{Less, Equal, Greater}
 use Rattle.std.proofs.lemmas.Bool.Decides.{nat_tests}
 use Rattle.zr_world.specs.Pools.{is_below, name_is_below, stands_before, IsVersionList}
 use Rattle.zr_world.specs.declared.version.VersionName.{VersionName}
@@ -58,11 +59,36 @@ ordered-one {X} before one_way (x ∷ xs) (y ∷ ys) p q there back =
     let rest = ordered-one before one_way xs ys (ordered-rest before x xs p) (ordered-rest before y ys q) forth again in
     cc
 
+less-one_way : (o : Ordering) → is_lt o ≡ true → is_lt (ordering_reverse o) ≡ true → ⊥
+less-one_way Less p q = cc
+less-one_way Equal p q = cc
+less-one_way Greater p q = cc
+
 below-one_way : (x y : List ℕ) → is_below x y ≡ true → is_below y x ≡ true → ⊥
-below-one_way x y p q = ?
+below-one_way x y p q =
+    less-one_way (slice_cmp nat_cmp x y) p (ap is_lt (sym (nat_list_cmp_total.antisymm y x)) ∙ q)
 
 name-one_way : (a b : VersionName) → name_is_below a b ≡ true → name_is_below b a ≡ true → ⊥
 name-one_way (Snap x) (Snap y) p q = below-one_way x y p q
 name-one_way (Snap x) (Mark y) p q = cc
 name-one_way (Mark x) (Snap y) p q = cc
 name-one_way (Mark x) (Mark y) p q = below-one_way x y p q
+
+both-below : (m n : ℕ) (b c : Bool) → (nat_lt m n || ((m == n) && b)) ≡ true → (nat_lt n m || ((n == m) && c)) ≡ true → (b ≡ true) × (c ≡ true)
+both-below m n true true p q = (refl, refl)
+both-below m n true false p q = absurd (grind (arith, nat_tests))
+both-below m n false c p q = absurd (grind (arith, nat_tests))
+
+-- of two rows one stands before the other at most
+stands-one_way : (a b : VersionRow) → stands_before a.txg a.name b.txg b.name ≡ true → stands_before b.txg b.name a.txg a.name ≡ true → ⊥
+stands-one_way a b p q =
+    let both = both-below a.txg b.txg (name_is_below a.name b.name) (name_is_below b.name a.name) p q in
+    name-one_way a.name b.name both.0 both.1
+
+-- one list has the rows of another in order
+pub version-list-one : (listed xs ys : List VersionRow) → IsPermutation listed xs → IsPermutation listed ys → IsVersionList xs → IsVersionList ys → xs ≡ ys
+version-list-one listed xs ys p q one other =
+    let forth = IsPermutation-trans xs listed ys (IsPermutation-sym listed xs p) q in
+    let back = IsPermutation-trans ys listed xs (IsPermutation-sym listed ys q) p in
+    ordered-one (λ a b. stands_before a.txg a.name b.txg b.name ≡ true) stands-one_way xs ys one.in_order other.in_order
+    (λ z has. Contains-permutation xs ys z forth has) (λ z has. Contains-permutation ys xs z back has)

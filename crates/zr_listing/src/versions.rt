@@ -147,6 +147,7 @@ pub fn read_versions(
 ) -> Result<Rows<VersionRow>, ListFault>
     ensures rows { IfOk result (IsVersionListing path.now bytes.now) }
     ensures in_order { IfOk result IsVersionList }
+    ensures only { IfOk result (λ rows. (others : List VersionRow) → IsVersionListing path.now bytes.now others → others ≡ rows) }
     ensures garbled { IfErr result (IsBadAt (IsVersionLine path.now) (λ row. full_name path.now row.name) bytes.now) }
     ensures none { IsGarbled result → (rows : List VersionRow) → IsVersionListing path.now bytes.now rows → ⊥ }
 {

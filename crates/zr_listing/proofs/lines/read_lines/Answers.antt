@@ -1,4 +1,4 @@
-use Rattle.std.proofs.Common.{◌≡◌, ◌+◌, ◌∙◌, sym, refl, not, ap, arith, Err}
+use Rattle.std.proofs.Common.{◌+◌, ap, arith, Err}
 use Rattle.zr_listing.proofs.Reading.{repeated, more, stopped, not-added, was-added, some-length}
 use Rattle.zr_listing.proofs.lines.read_lines.Goals as goal
 
