@@ -1,15 +1,12 @@
-use Rattle.std.proofs.Common.{◌≡◌, ◌≢◌, ℕ, zero, suc, ◌+◌, ◌<◌, ◌≤◌, List, [], ◌∷◌, ◌++◌, length, get_or, take, drop, refl, arith, ap, ◌∙◌, sym, subst, ◌⊎◌, inl, inr, Ok, Err, length-append, length-take}
+use Rattle.std.proofs.Common.{◌≡◌, ℕ, zero, suc, ◌<◌, ◌≤◌, List, [], ◌∷◌, ◌++◌, length, get_or, take, refl, arith, ap, ◌∙◌, sym, ◌⊎◌, inl, inr, Err}
 use Rattle.std.specs.Prelude.{codes}
-use Rattle.std.proofs.lemmas.List.{take-append-le, take_all, take_more, take-take, get_or-take, append-nil}
-use Rattle.zr_names.specs.Names.{IsName, path_is_bad, name_is_bad}
-use Rattle.zr_names.specs.declared.names.TheConstants.{PATH_LIMIT, NAME_LIMIT}
+use Rattle.std.proofs.lemmas.List.{take-append-le, take_all, take_more, get_or-take, append-nil}
 use Rattle.zr_world.specs.declared.command.Cmd.{Cmd}
 use Rattle.zr_world.specs.declared.command.Cmd.TheVariants as cmd
-use Rattle.zr_cmd.specs.Words.{sets_words, versions_words, words_of, IsNamed, Spells, Begins, IsLongest, IsUnknown, Reads}
+use Rattle.zr_cmd.specs.Words.{sets_words, versions_words, words_of, IsNamed, Spells, Begins, Reads}
 use Rattle.zr_cmd.specs.Steps.{IsFull}
-use Rattle.zr_cmd.specs.declared.argv.ArgvFault.{ArgvFault}
-use Rattle.zr_cmd.specs.declared.argv.ArgvFault.TheVariants.{UnknownCommand, BadWord, NoMemory}
-use Rattle.zr_cmd.proofs.Longest.{sets-length, versions-length, sets-first, versions-first, other-words, a-path, a-name, prefix-of, some-words, take-one, known}
+use Rattle.zr_cmd.specs.declared.argv.ArgvFault.TheVariants.{BadWord}
+use Rattle.zr_cmd.proofs.Longest.{versions-length, sets-first, versions-first, other-words, a-path, a-name, prefix-of, some-words, take-one, known}
 
 -- some full name stands at the second place
 pub record HasFull (words : List (List ℕ)) : Type 0 where
@@ -38,7 +35,7 @@ destroy-with words (suc (suc k)) (cmd.DestroySnap path name) more first within n
     let table = words_of (cmd.DestroySnap path name) in
     let p = prefix-of table words more (suc (suc k)) longer within in
     let here : get_or words 1 [] ≡ path ++ 64 ∷ name =
-        sym (get_or-take (suc (suc k)) words 1 [] (omega arith)) ∙ sym (ap (λ t. get_or t 1 []) p.1) ∙ get_or-take (suc (suc k)) table 1 [] (omega arith) in
+    sym (get_or-take (suc (suc k)) words 1 [] (omega arith)) ∙ sym (ap (λ t. get_or t 1 []) p.1) ∙ get_or-take (suc (suc k)) table 1 [] (omega arith) in
     inr (omega (arith, p.0), record { path = path; name = name; full = record { spelled = here; is_path = named.0; is_name = named.1 } })
 
 destroy-goes : (words : List (List ℕ)) (k : ℕ) → take 1 words ≡ codes "destroy" ∷ [] → k ≤ length words → Begins (take k words) → (k ≤ 1) ⊎ ((k ≡ 2) × HasFull words)
@@ -63,16 +60,17 @@ begins-destroy words first = record {
 pub bad-full : (words : List (List ℕ)) → take 1 words ≡ codes "destroy" ∷ [] → ((1 < length words) → (path name : List ℕ) → IsFull (get_or words 1 []) path name → ⊥) → Reads words (Err (BadWord 1))
 bad-full words first unnamed =
     let some = some-words words (codes "destroy") first in (
-    known words (codes "destroy") first (inr refl),
-    (λ command is. let has = destroy-spelled words command first is in unnamed (omega arith) has.1.path has.1.name has.1.full),
-    record {
-      within = omega arith;
-      begins = begins-destroy words first;
-      longest = λ k past within b. elim (destroy-goes words k first within b) [
-        | inl most ↦ omega arith
-        | inr has ↦ unnamed (omega (arith, has.0)) has.1.path has.1.name has.1.full
-      ];
-    })
+      known words (codes "destroy") first (inr refl),
+      (λ command is. let has = destroy-spelled words command first is in unnamed (omega arith) has.1.path has.1.name has.1.full),
+      record {
+        within = omega arith;
+        begins = begins-destroy words first;
+        longest = λ k past within b. elim (destroy-goes words k first within b) [
+          | inl most ↦ omega arith
+          | inr has ↦ unnamed (omega (arith, has.0)) has.1.path has.1.name has.1.full
+        ];
+      },
+    )
 
 pub read-destroy : (words : List (List ℕ)) (path name : List ℕ) → take 1 words ≡ codes "destroy" ∷ [] → length words ≡ 2 → IsFull (get_or words 1 []) path name → Spells words (cmd.DestroySnap path name)
 read-destroy words path name first count full =
@@ -87,13 +85,14 @@ pub bad-rest : (words : List (List ℕ)) (path name : List ℕ) → take 1 words
 bad-rest words path name first count full =
     let grown : take 2 words ≡ take 1 words ++ get_or words 1 [] ∷ [] = take_more words 1 [] (omega arith) in
     let same : take 2 words ≡ words_of (cmd.DestroySnap path name) = grown ∙ rw (first, full.spelled) refl in (
-    known words (codes "destroy") first (inr refl),
-    (λ command is. let has = destroy-spelled words command first is in omega (arith, has.0)),
-    record {
-      within = omega arith;
-      begins = record { command = cmd.DestroySnap path name; more = []; named = (full.is_path, full.is_name); longer = sym same ∙ sym (append-nil (take 2 words)) };
-      longest = λ k past within b. elim (destroy-goes words k first within b) [
-        | inl most ↦ omega arith
-        | inr has ↦ omega (arith, has.0)
-      ];
-    })
+      known words (codes "destroy") first (inr refl),
+      (λ command is. let has = destroy-spelled words command first is in omega (arith, has.0)),
+      record {
+        within = omega arith;
+        begins = record { command = cmd.DestroySnap path name; more = []; named = (full.is_path, full.is_name); longer = sym same ∙ sym (append-nil (take 2 words)) };
+        longest = λ k past within b. elim (destroy-goes words k first within b) [
+          | inl most ↦ omega arith
+          | inr has ↦ omega (arith, has.0)
+        ];
+      },
+    )

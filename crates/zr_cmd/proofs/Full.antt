@@ -1,9 +1,7 @@
-use Rattle.std.proofs.Common.{◌≡◌, ◌≢◌, ℕ, zero, suc, ◌+◌, ◌-◌, ◌<◌, ◌≤◌, List, [], ◌∷◌, ◌++◌, All, length, get_or, take, drop, refl, arith, ap, ◌∙◌, sym, subst, length-take, length-append}
+use Rattle.std.proofs.Common.{◌≡◌, ◌≢◌, ℕ, ◌+◌, ◌-◌, ◌<◌, List, [], ◌∷◌, ◌++◌, length, get_or, take, drop, refl, arith, ap, ◌∙◌, sym, length-take, length-append}
 use Rattle.std.specs.List.{AllByRecursion}
 use Rattle.std.proofs.lemmas.List.{take-append-drop, drop_more, get_or-take, take_rest, get_or_default, get_or_at}
 use Rattle.std.proofs.lemmas.List.Elements.{recursion_from_All}
-use Rattle.zr_names.specs.Names.{IsName, path_is_bad, name_is_bad}
-use Rattle.zr_names.specs.declared.names.TheConstants.{PATH_LIMIT, NAME_LIMIT}
 use Rattle.zr_cmd.specs.Steps.{IsFull, Lacks}
 use Rattle.zr_cmd.proofs.Texts.{ArePlain, path-plain}
 
@@ -11,10 +9,12 @@ use Rattle.zr_cmd.proofs.Texts.{ArePlain, path-plain}
 pub cut-at : (word : List ℕ) (i : ℕ) → i < length word → get_or word i 0 ≡ 64 → ((k : ℕ) → k < i → get_or word k 0 ≢ 64) → (word ≡ take i word ++ 64 ∷ take (length word - (i + 1)) (drop (i + 1) word)) × Lacks (take i word)
 cut-at word i inside here before =
     let whole : word ≡ take i word ++ 64 ∷ drop (i + 1) word =
-        sym (take-append-drop i word) ∙ ap (λ l. take i word ++ l) (drop_more word i 0 inside ∙ ap (λ b. b ∷ drop (i + 1) word) here) in
-    (rw (take_rest word (i + 1)) whole, λ k d below at.
-        let low : k < i = omega (arith, length-take i word) in
-        before k low (get_or_default word k 0 d (omega arith) ∙ sym (get_or-take i word k d low) ∙ at))
+    sym (take-append-drop i word) ∙ ap (λ l. take i word ++ l) (drop_more word i 0 inside ∙ ap (λ b. b ∷ drop (i + 1) word) here) in (
+      rw (take_rest word (i + 1)) whole,
+      λ k d below at.
+          let low : k < i = omega (arith, length-take i word) in
+          before k low (get_or_default word k 0 d (omega arith) ∙ sym (get_or-take i word k d low) ∙ at),
+    )
 
 abbrev Without : List ℕ → Type 0
 Without word = AllByRecursion (λ b. b ≢ 64) word

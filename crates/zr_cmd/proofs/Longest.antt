@@ -1,14 +1,13 @@
-use Rattle.std.proofs.Common.{◌≡◌, ◌≢◌, ℕ, zero, suc, ◌+◌, ◌<◌, ◌≤◌, Bool, true, false, List, [], ◌∷◌, ◌++◌, length, get_or, take, drop, refl, arith, ap, ◌∙◌, sym, subst, ◌⊎◌, inl, inr, Ok, Err, length-append, length-take, max}
+use Rattle.std.proofs.Common.{◌≡◌, ℕ, zero, suc, ◌+◌, ◌<◌, ◌≤◌, false, List, [], ◌∷◌, ◌++◌, length, get_or, take, drop, refl, arith, ap, ◌∙◌, sym, subst, ◌⊎◌, inl, inr, Err, length-append, max}
 use Rattle.std.specs.Prelude.{codes}
 use Rattle.std.proofs.lemmas.List.{take_at, get_or-take, take-append-le, take-append-drop, take-take, take_all, take_more, append-nil, append_assoc, get_or_at, length-take-le}
 use Rattle.zr_names.specs.Names.{IsName, path_is_bad, name_is_bad}
 use Rattle.zr_names.specs.declared.names.TheConstants.{PATH_LIMIT, NAME_LIMIT}
 use Rattle.zr_world.specs.declared.command.Cmd.{Cmd}
 use Rattle.zr_world.specs.declared.command.Cmd.TheVariants as cmd
-use Rattle.zr_cmd.specs.Words.{sets_words, versions_words, words_of, IsNamed, Spells, Begins, IsLongest, IsUnknown, Reads}
+use Rattle.zr_cmd.specs.Words.{sets_words, versions_words, words_of, IsNamed, Spells, Begins, IsUnknown, Reads}
 use Rattle.zr_cmd.specs.Steps.{IsCommon}
-use Rattle.zr_cmd.specs.declared.argv.ArgvFault.{ArgvFault}
-use Rattle.zr_cmd.specs.declared.argv.ArgvFault.TheVariants.{UnknownCommand, BadWord, NoMemory}
+use Rattle.zr_cmd.specs.declared.argv.ArgvFault.TheVariants.{BadWord}
 
 pub sets-length : length sets_words ≡ 7
 unfolding sets_words
@@ -94,12 +93,12 @@ versions-go words s v k path more l within named longer =
           (sym (take-append-le k versions_words (path ∷ []) (omega arith)) ∙ p.1))
       | inr less ↦
           let same : take 11 versions_words ≡ take 11 words =
-              sym (take-append-le 11 versions_words (path ∷ []) (omega arith))
-              ∙ sym (take-take 11 k table (omega arith)) ∙ ap (take 11) p.1 ∙ take-take 11 k words (omega arith) in
+          sym (take-append-le 11 versions_words (path ∷ []) (omega arith))
+          ∙ sym (take-take 11 k table (omega arith)) ∙ ap (take 11) p.1 ∙ take-take 11 k words (omega arith) in
           let most = common-most words versions_words v 11 l.versions (omega arith) (omega arith) same in
           let here : path ≡ get_or words 11 [] =
-              sym (get_or_at versions_words path [] [] 11 eleven) ∙ sym (get_or-take k table 11 [] less)
-              ∙ ap (λ t. get_or t 11 []) p.1 ∙ get_or-take k words 11 [] less in
+          sym (get_or_at versions_words path [] [] 11 eleven) ∙ sym (get_or-take k table 11 [] less)
+          ∙ ap (λ t. get_or t 11 []) p.1 ∙ get_or-take k words 11 [] less in
           let in_table : v ≤ length versions_words = l.versions.in_table in
           inr (record { at = omega arith; all = omega arith; named = subst (IsName path_is_bad PATH_LIMIT) here named })
     ]
@@ -185,11 +184,12 @@ bad-list words s v m l over_s over_v one no_sets no_versions = (
     longest = λ k past within b. elim (goes words s v k l within b) [
       | inl most ↦ omega arith
       | inr other ↦ elim other [
-          | inl most ↦ omega arith
-          | inr has ↦ no_versions has.all (let at = has.at in omega arith)
-        ]
+        | inl most ↦ omega arith
+        | inr has ↦ no_versions has.all (let at = has.at in omega arith)
+      ]
     ];
-  })
+  },
+)
 
 pub read-versions : (words : List (List ℕ)) (v : ℕ) (path : List ℕ) → IsCommon words versions_words v → v ≡ 11 → length words ≡ v + 1 → path ≡ get_or words v [] → IsName path_is_bad PATH_LIMIT path → Spells words (cmd.Versions path)
 read-versions words v path c full count is named =
@@ -206,19 +206,20 @@ pub bad-path : (words : List (List ℕ)) (s v : ℕ) → Listed words s v → v 
 bad-path words s v l full more unnamed =
     let small : s ≤ length sets_words = l.sets.in_table in
     let at : (IsName path_is_bad PATH_LIMIT (get_or words 11 []) → ⊥) = subst (λ (n : ℕ). IsName path_is_bad PATH_LIMIT (get_or words n []) → ⊥) full unnamed in (
-    known words (codes "list") l.first (inl refl),
-    (λ command is. elim (spelled-with words s v command l is) [
-      | inl sets ↦ (let count = sets.1 in omega arith)
-      | inr versions ↦ at versions.2
-    ]),
-    record {
-      within = l.versions.in_words;
-      begins = begins-versions words s v l;
-      longest = λ k past within b. elim (goes words s v k l within b) [
-        | inl most ↦ omega (arith, sets-length)
-        | inr other ↦ elim other [ inl most ↦ omega arith | inr has ↦ at has.named ]
-      ];
-    })
+      known words (codes "list") l.first (inl refl),
+      (λ command is. elim (spelled-with words s v command l is) [
+        | inl sets ↦ (let count = sets.1 in omega arith)
+        | inr versions ↦ at versions.2
+      ]),
+      record {
+        within = l.versions.in_words;
+        begins = begins-versions words s v l;
+        longest = λ k past within b. elim (goes words s v k l within b) [
+          | inl most ↦ omega (arith, sets-length)
+          | inr other ↦ elim other [ inl most ↦ omega arith | inr has ↦ at has.named ]
+        ];
+      },
+    )
 
 -- words behind those of a listing of versions
 pub bad-more : (words : List (List ℕ)) (s v m : ℕ) (path : List ℕ) → Listed words s v → v ≡ 11 → m ≡ v + 1 → m < length words → path ≡ get_or words v [] → IsName path_is_bad PATH_LIMIT path → Reads words (Err (BadWord m))
@@ -226,21 +227,22 @@ bad-more words s v m path l full count more is named =
     let small : s ≤ length sets_words = l.sets.in_table in
     let grown : take (v + 1) words ≡ take v words ++ get_or words v [] ∷ [] = take_more words v [] (omega arith) in
     let same : take m words ≡ versions_words ++ path ∷ [] =
-        ap (λ n. take n words) count ∙ grown ∙ ap (λ w. take v words ++ w ∷ []) (sym is)
-        ∙ ap (λ t. t ++ path ∷ []) (l.versions.same ∙ take_all v versions_words (omega (arith, versions-length))) in (
-    known words (codes "list") l.first (inl refl),
-    (λ command is. elim (spelled-with words s v command l is) [
-      | inl sets ↦ (let n = sets.1 in omega arith)
-      | inr versions ↦ (let n = versions.1 in omega arith)
-    ]),
-    record {
-      within = omega arith;
-      begins = record { command = cmd.Versions path; more = []; named = named; longer = sym same ∙ sym (append-nil (take m words)) };
-      longest = λ k past within b. elim (goes words s v k l within b) [
-        | inl most ↦ omega (arith, sets-length)
-        | inr other ↦ elim other [ inl most ↦ omega arith | inr has ↦ (let at = has.at in omega arith) ]
-      ];
-    })
+    ap (λ n. take n words) count ∙ grown ∙ ap (λ w. take v words ++ w ∷ []) (sym is)
+    ∙ ap (λ t. t ++ path ∷ []) (l.versions.same ∙ take_all v versions_words (omega (arith, versions-length))) in (
+      known words (codes "list") l.first (inl refl),
+      (λ command is. elim (spelled-with words s v command l is) [
+        | inl sets ↦ (let n = sets.1 in omega arith)
+        | inr versions ↦ (let n = versions.1 in omega arith)
+      ]),
+      record {
+        within = omega arith;
+        begins = record { command = cmd.Versions path; more = []; named = named; longer = sym same ∙ sym (append-nil (take m words)) };
+        longest = λ k past within b. elim (goes words s v k l within b) [
+          | inl most ↦ omega (arith, sets-length)
+          | inr other ↦ elim other [ inl most ↦ omega arith | inr has ↦ (let at = has.at in omega arith) ]
+        ];
+      },
+    )
 
 pub larger-one : (a b m : ℕ) → m ≡ max a b → (m ≡ a) ⊎ (m ≡ b)
 larger-one a b m is = elim (le-or-lt a b) [ inl most ↦ inr (omega arith) | inr less ↦ inl (omega arith) ]

@@ -1,4 +1,4 @@
-use Rattle.std.proofs.Common.{map, Bor, ◌≡◌, ◌≢◌, ◌==◌, ◌&&◌, ◌||◌, ℕ, zero, suc, ◌+◌, ◌<◌, ◌≤◌, Bool, true, false, not, nat_lt, List, [], ◌∷◌, ◌++◌, All, length, get_or, slice_index, refl, arith, ap, ◌∙◌, sym, subst, rules, lit<}
+use Rattle.std.proofs.Common.{map, Bor, ◌≡◌, ◌≢◌, ◌==◌, ◌&&◌, ◌||◌, ℕ, zero, suc, ◌<◌, Bool, true, false, not, List, [], ◌∷◌, ◌++◌, length, get_or, slice_index, refl, arith, ap, ◌∙◌, sym, lit<}
 use Rattle.std.specs.Prelude.{String, string_bytes, if◌then◌else◌}
 use Rattle.std.specs.List.{AllByRecursion}
 use Rattle.std.specs.Bool.{Decides}
@@ -8,7 +8,7 @@ use Rattle.zr_cmd.specs.Steps.{texts}
 use Rattle.std.specs.Str.{IsUtf8, IsAscii, bytes_eq}
 use Rattle.std.proofs.lemmas.Bool.Decides.{nat_tests}
 use Rattle.std.proofs.lemmas.Str.{IsUtf8-from_ascii, IsAscii-append}
-use Rattle.zr_names.specs.Names.{IsName, is_alphanumeric, is_name_byte, path_is_bad, name_is_bad, slash_is_bad, begins_component, is_dots}
+use Rattle.zr_names.specs.Names.{IsName, is_name_byte, path_is_bad, name_is_bad, slash_is_bad, begins_component, is_dots}
 use Rattle.zr_names.specs.declared.names.TheConstants.{PATH_LIMIT, NAME_LIMIT}
 
 -- the bytes of names and paths: ASCII, and not `@`
@@ -65,7 +65,7 @@ pub utf8_snap : (path name : List ℕ) → IsName path_is_bad PATH_LIMIT path �
 utf8_snap path name p q =
     let at : IsAscii (64 ∷ []) = one-ascii in
     IsUtf8-from_ascii ((path ++ 64 ∷ []) ++ name)
-      (IsAscii-append (path ++ 64 ∷ []) name (IsAscii-append path (64 ∷ []) (plain-ascii path (path-plain path p)) at) (plain-ascii name (name-plain name q)))
+    (IsAscii-append (path ++ 64 ∷ []) name (IsAscii-append path (64 ∷ []) (plain-ascii path (path-plain path p)) at) (plain-ascii name (name-plain name q)))
 
 abbrev pub none : Bor (List ℕ)
 none = record { ref_ptr = (0, 0); now = [] }

@@ -1,6 +1,6 @@
-use Rattle.std.proofs.Common.{◌≡◌, ◌≢◌, ℕ, zero, suc, ◌+◌, ◌<◌, ◌≤◌, List, [], ◌∷◌, ◌++◌, length, get_or, take, refl, arith, ap, ◌∙◌, sym, subst, ◌⊎◌, inl, inr, Result, Ok, Err, length-append}
+use Rattle.std.proofs.Common.{◌≡◌, ℕ, List, [], ◌∷◌, ◌++◌, length, get_or, take, refl, arith, ap, ◌∙◌, sym, ◌⊎◌, inl, inr, Result, Ok, Err, length-append}
 use Rattle.std.specs.Prelude.{codes}
-use Rattle.std.proofs.lemmas.List.{append_cancel_left, same_from_push}
+use Rattle.std.proofs.lemmas.List.{same_from_push}
 use Rattle.zr_world.specs.declared.command.Cmd.{Cmd}
 use Rattle.zr_world.specs.declared.command.Cmd.TheVariants as cmd
 use Rattle.zr_cmd.specs.Words.{sets_words, versions_words, words_of, IsNamed, Spells, IsUnknown, Reads}
@@ -8,7 +8,7 @@ use Rattle.zr_cmd.specs.Steps.{IsFull}
 use Rattle.zr_cmd.specs.declared.argv.ArgvFault.{ArgvFault}
 use Rattle.zr_cmd.specs.declared.argv.ArgvFault.TheVariants.{UnknownCommand, BadWord, NoMemory}
 use Rattle.zr_cmd.proofs.Full.{full-one}
-use Rattle.zr_cmd.proofs.Longest.{sets-length, versions-length, sets-first, versions-first, other-words, known}
+use Rattle.zr_cmd.proofs.Longest.{sets-length, versions-length, sets-first, known}
 use Rattle.zr_cmd.proofs.Destroying.{versions-path-first}
 
 versions-path-length : (path : List ℕ) → length (versions_words ++ path ∷ []) ≡ 12

@@ -9,5 +9,4 @@ pub fn words_are_of_one_command()
     ensures one { (a b : Cmd) → IsNamed a → IsNamed b → words_of a ≡ words_of b → a ≡ b }
     ensures read_back { (words : List (List ℕ)) (command : Cmd) (result : Result Cmd ArgvFault) →
         Reads words result → Spells words command → (result ≡ Ok command) ⊎ (result ≡ Err NoMemory) }
-{
-}
+{}

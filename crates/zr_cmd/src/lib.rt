@@ -8,4 +8,6 @@ pub use words::Words;
 pub mod argv;
 pub mod laws;
 pub mod reading;
+#[cfg(test)]
+mod tests;
 pub mod words;

@@ -11,6 +11,7 @@ use Rattle.zr_cmd.specs.Words.{sets_words, versions_words, words_of, IsNamed, Sp
 use Rattle.zr_cmd.proofs.Texts.{ArePlain, path-plain}
 use Rattle.zr_world.specs.declared.command.Cmd.{Cmd}
 use Rattle.zr_world.specs.declared.command.Cmd.TheVariants as cmd
+use Rattle.zr_exec.proofs.Names.{and-both, same_once}
 use Rattle.zr_exec.specs.Commands.{command_of, commands_at, has_words, is_at_sign, last_word}
 
 -- words are as themselves
@@ -78,3 +79,25 @@ one_command words one other p q =
     let a = command_of-spelled words one p in
     let b = command_of-spelled words other q in
     cc
+
+found-passes : (p : Cmd → Bool) (cs : List Cmd) (c : Cmd) → find p cs ≡ Some c → p c ≡ true
+found-passes p [] c found = cc
+found-passes p (first ∷ cs) c found = choose (p first) refl found (found-passes p cs c) where
+  choose : (b : Bool) → p first ≡ b → cond b (Some first) (find p cs) ≡ Some c → (find p cs ≡ Some c → p c ≡ true) → p c ≡ true
+  choose true passes e rest = let same : first ≡ c = cc in subst (λ (x : Cmd). p x ≡ true) same passes
+  choose false passes e rest = rest e
+
+words-once : (one other : List (List ℕ)) → pointwise (pointwise nat_eq) one other ≡ true → one ≡ other
+words-once [] [] e = refl
+words-once [] (y ∷ ys) e = cc
+words-once (x ∷ xs) [] e = cc
+words-once (x ∷ xs) (y ∷ ys) e =
+    let both = and-both (pointwise nat_eq x y) (pointwise (pointwise nat_eq) xs ys) e in
+    let first : x ≡ y = same_once x y both.0 in
+    let rest = words-once xs ys both.1 in
+    cc
+
+-- words that are read as a command are its words
+pub words_of-read : (words : List (List ℕ)) (command : Cmd) → command_of words ≡ Some command → words ≡ words_of command
+words_of-read words command read =
+    words-once words (words_of command) (found-passes (has_words words) (commands_at (last_word words)) command read)

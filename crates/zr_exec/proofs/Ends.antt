@@ -30,11 +30,11 @@ short words before after exit bytes does = record {
 pub does_recorded : (words all : List (List ℕ)) (before old after : Pools) (lines more : List Line) (exit given : RunExit) (bytes written : List ℕ) → words ≡ all → before ≡ old → DoesWords words before after exit bytes → IsRecorded lines more words exit written given → DoesWords all old after given bytes
 does_recorded words all before old after lines more exit given bytes written same_words same_pools does recorded =
     subst (λ (ws : List (List ℕ)). DoesWords ws old after given bytes) same_words
-      (subst (λ (p : Pools). DoesWords words p after given bytes) same_pools
-        (elim recorded [
-          | inl kept ↦ subst (λ (e : RunExit). DoesWords words before after e bytes) (sym kept.1) does
-          | inr lost ↦ subst (λ (e : RunExit). DoesWords words before after e bytes) (sym lost.1) (short words before after exit bytes does)
-        ]))
+    (subst (λ (p : Pools). DoesWords words p after given bytes) same_pools
+    (elim recorded [
+      | inl kept ↦ subst (λ (e : RunExit). DoesWords words before after e bytes) (sym kept.1) does
+      | inr lost ↦ subst (λ (e : RunExit). DoesWords words before after e bytes) (sym lost.1) (short words before after exit bytes does)
+    ]))
 
 -- a child that does the command that its words spell
 pub does_spelled : (words : List (List ℕ)) (command : Cmd) (before after : Pools) (exit : RunExit) (bytes : List ℕ) → Spells words command → Does command before after exit bytes → DoesWords words before after exit bytes

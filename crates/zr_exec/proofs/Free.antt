@@ -25,7 +25,7 @@ FreeStep (go after given) = AreFree given
 rows-free : (next_txg : ℕ) (set : Dataset) → IsWellFormedSet next_txg set → MarksAreFree (map row_of_version set.versions)
 rows-free next_txg set formed =
     All-map (λ (row : VersionRow). is_mark row.name ≡ true → row.refs ≡ 0) row_of_version set.versions
-      (λ k d inside mark. ap length (formed.marks_free k d inside mark))
+    (λ k d inside mark. ap length (formed.marks_free k d inside mark))
 
 versions-free : (pools : Pools) (found : Option Dataset) → ((set : Dataset) → found ≡ Some set → IsWellFormedSet pools.next_txg set) → FreeStep (versions_step pools found)
 versions-free pools None each = tt

@@ -1,6 +1,9 @@
 pub mod Answering
+pub mod Columns
 pub mod Commands
+pub mod Entries
 pub mod Exits
 pub mod Recording
+pub mod Rows
 pub mod Serving
 pub mod Stored

@@ -4,31 +4,41 @@ ghost use Rattle.zr_world.specs.Answering.{Fits};
 
 use crate::spawn::{LISTING_LIMIT, RunExit, Spawn};
 use std::alloc::Global;
+use std::marker::Model;
 use zr_cmd::argv_of;
 use zr_listing::{ListFault, read_sets, read_versions};
 use zr_names::{NoMemory, Path, Rows, Unit};
 use zr_world::{Answer, Cmd, Reply, Zfs};
 
-/// A runner of ZFS commands that starts a child for each and reads what it writes.
+/// A runner of ZFS commands that starts a child for each and reads what it writes. Contracts see it as its
+/// runner of children.
 #[derive(Drop)]
 pub struct CliZfs<S> {
     spawn: S,
     program: String,
 }
 
-impl<S: Spawn> CliZfs<S> {
+impl<S> Model for CliZfs<S> {
+    ghost Value = { S };
+
+    ghost coded = { S.code };
+
+    ghost view = { λ c. c.spawn };
+}
+
+impl<S> CliZfs<S> {
     ghost use Rattle.std.specs.Prelude.{◌≡◌};
 
     /// A runner whose children are those of this program, as `zfs`.
     pub fn new(spawn: S, program: String) -> CliZfs<S>
-        ensures { result.spawn ≡ spawn }
+        ensures { result ≡ spawn }
     {
         CliZfs { spawn, program }
     }
 
     /// The runner of children.
     pub fn spawn(self) -> S
-        ensures { result ≡ self.spawn }
+        ensures { result ≡ self }
     {
         let CliZfs { spawn, program: _ } = self;
         spawn
@@ -92,14 +102,15 @@ fn answer(alloc: Global, cmd: &Cmd, exit: RunExit, out: &[u8]) -> Answer
 }
 
 impl<S: Spawn> Zfs for CliZfs<S> {
-    ghost use Rattle.std.specs.Prelude.{None};
+    ghost use Rattle.zr_exec.specs.Entries.{entries_of};
 
-    ghost faults = { λ c. S.faults c.spawn };
+    ghost faults = { λ c. S.faults c };
 
-    ghost pools = { λ _. None };
+    ghost pools = { λ c. S.pools c };
 
-    ghost told = { λ _. None };
+    ghost told = { λ c. entries_of (S.told c) };
 
+    #[tactic(auto, using(crate::proofs::Answers::begin_told))]
     fn begin(&mut self, unit: &Unit, run: u64) -> Result<(), NoMemory> {
         self.spawn.begin(unit, run)
     }

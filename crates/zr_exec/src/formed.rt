@@ -1,6 +1,11 @@
 ghost use Rattle.std.specs.Prelude.{◌≡◌, ◌≢◌, ◌<◌, All, AllPairs, IsTrue, true};
 ghost use Rattle.zr_world.specs.Pools.{
-  is_below, IsWellFormed, IsWellFormedSet, MarkIsFree, name_is_below, stands_before,
+  is_below,
+  IsWellFormed,
+  IsWellFormedSet,
+  MarkIsFree,
+  name_is_below,
+  stands_before,
 };
 
 use zr_names::Tag;

@@ -8,6 +8,9 @@ pub use spawn::{Call, LISTING_LIMIT, Line, RunExit, Spawn};
 
 pub mod cli;
 pub mod formed;
+pub mod laws;
 pub mod mem;
 pub mod serving;
 pub mod spawn;
+#[cfg(test)]
+mod tests;

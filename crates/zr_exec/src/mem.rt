@@ -147,7 +147,14 @@ impl Spawn for MemSpawn {
         self.calls = self.calls.saturating_add(1);
         let plan = Planned::find(self.failing.as_slice(), self.calls);
         let words = behind_program(argv);
-        let exit = serve(self.alloc, &mut self.pools, &mut self.faults, words, plan, out);
+        let exit = serve(
+            self.alloc,
+            &mut self.pools,
+            &mut self.faults,
+            words,
+            plan,
+            out,
+        );
         recorded(self.alloc, &mut self.told, words, exit, out.as_slice())
     }
 }

@@ -1,5 +1,5 @@
-use Rattle.std.proofs.Common.{◌≡◌, ◌==◌, ℕ, zero, suc, ◌+◌, ◌-◌, ◌<◌, ◌≤◌, Bool, true, false, cond, not, nat_lt, Some, None, List, [], ◌∷◌, ◌++◌, length, get_or, take, drop, position, All, refl, arith, ap, ◌∙◌, sym, length-drop, length-take}
-use Rattle.std.specs.List.{position_or_len, slice_split, AllByRecursion}
+use Rattle.std.proofs.Common.{◌≡◌, ◌==◌, ℕ, suc, ◌+◌, ◌-◌, ◌<◌, ◌≤◌, Bool, true, false, cond, not, nat_lt, Some, None, List, [], ◌∷◌, ◌++◌, length, get_or, take, drop, position, All, refl, arith, ap, ◌∙◌, sym, length-take}
+use Rattle.std.specs.List.{position_or_len, AllByRecursion}
 use Rattle.std.proofs.lemmas.Bool.Decides.{nat_tests}
 use Rattle.std.proofs.lemmas.List.{take-append-drop, drop_more, get_or-take, take_rest, get_or_default}
 use Rattle.std.proofs.lemmas.List.Elements.{All-from_recursion}
@@ -37,8 +37,8 @@ parted-first byte text i first =
     let inside : i < length text = at.0 in
     let whole : text ≡ take i text ++ get_or text i 0 ∷ drop (i + 1) text = sym (take-append-drop i text) ∙ ap (λ l. take i text ++ l) (drop_more text i 0 inside) in
     let lacks : All (λ b. (b == byte) ≡ false) (take i text) = λ k d below.
-        let low : k < i = omega (arith, length-take i text) in
-        rw (get_or-take i text k d low) (rw (get_or_default text k d 0 (omega arith)) (at.2 k low)) in
+    let low : k < i = omega (arith, length-take i text) in
+    rw (get_or-take i text k d low) (rw (get_or_default text k d 0 (omega arith)) (at.2 k low)) in
     rw (take_rest text (i + 1)) (ap (parted byte) whole ∙ slice_split_at p (take i text) (get_or text i 0) (drop (i + 1) text) lacks at.1)
 
 -- a text has a part at least

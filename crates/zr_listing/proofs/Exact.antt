@@ -1,7 +1,7 @@
-use Rattle.std.proofs.Common.{◌≡◌, ◌≢◌, ℕ, zero, suc, ◌+◌, ◌<◌, ◌≤◌, List, [], ◌∷◌, ◌++◌, length, get_or, refl, arith, ap, ◌∙◌, sym, subst, length-append, Any, Result, Ok, Err, IfErr}
+use Rattle.std.proofs.Common.{◌≡◌, ◌≢◌, ℕ, ◌<◌, List, [], ◌∷◌, ◌++◌, length, get_or, refl, arith, ap, ◌∙◌, sym, subst, length-append, Result, Ok, Err, IfErr}
 use Rattle.std.specs.List.{AllZip}
 use Rattle.std.proofs.lemmas.List.{append_cancel_right, get_or_append_left, get_or_at}
-use Rattle.zr_listing.specs.Lines.{lines_of, NamesDiffer, Lines, IsFirstBad, IsBadAt}
+use Rattle.zr_listing.specs.Lines.{NamesDiffer, Lines, IsFirstBad, IsBadAt}
 use Rattle.zr_listing.specs.Listing.{IsGarbled}
 use Rattle.zr_listing.specs.declared.faults.ListFault.{ListFault}
 use Rattle.zr_listing.specs.declared.faults.ListFault.TheVariants as fault
@@ -38,7 +38,9 @@ walk spells one [] (l ∷ lines) line later [] (y ∷ ys) p q e there =
     let first : l ≡ line = cc in
     let others : later ≡ lines ++ [] ∷ [] = cc in
     record {
-      row = y; more = ys; longer = refl;
+      row = y;
+      more = ys;
+      longer = refl;
       spelled = subst (λ (t : List ℕ). spells t y) first q.0;
       some = λ none. let count : length (lines ++ [] ∷ []) ≡ 0 = ap length (sym others ∙ none) in absurd (omega (arith, length-append lines ([] ∷ [])));
     }
@@ -55,18 +57,19 @@ walk spells one (k ∷ earlier) (l ∷ lines) line later (x ∷ xs) (y ∷ ys) p
     let longer = on.longer in
     record { row = on.row; more = on.more; longer = cc; spelled = on.spelled; some = on.some }
 
+-- a row that has the name of an earlier one
+named-twice : {Row : Type 0} (name : Row → List ℕ) (rows more : List Row) (row x : Row) (k : ℕ) → k < length rows → get_or rows k x ≡ x → name x ≡ name row → NamesDiffer name (rows ++ row ∷ more) → ⊥
+named-twice name rows more row x k inside at same differ =
+    let one : get_or (rows ++ row ∷ more) k x ≡ x = get_or_append_left rows (row ∷ more) x k inside ∙ at in
+    let other : get_or (rows ++ row ∷ more) (length rows) x ≡ row = get_or_at rows row more x (length rows) refl in
+    differ k (length rows) x inside (omega (arith, length-append rows (row ∷ more))) (ap name one ∙ same ∙ ap name (sym other))
+
 -- where a first line is bad, the bytes are the lines of no rows of different names
 pub bad-none : {Row : Type 0} (spells : List ℕ → Row → Type 0) (one : (line : List ℕ) (a b : Row) → spells line a → spells line b → a ≡ b) (name : Row → List ℕ) (bytes : List ℕ) (number : ℕ) (rows : List Row) → IsFirstBad spells name bytes number → Lines spells bytes rows → NamesDiffer name rows → ⊥
-bad-none spells one name bytes number rows b p differ =
+bad-none {Row} spells one name bytes number rows b p differ =
     let on = walk spells one b.earlier p.lines b.line b.later b.rows rows b.each p.each (sym b.cut ∙ p.ended) b.there in
     let twice = b.bad on.some on.row on.spelled in
-    let k = twice.0 in
-    let x = twice.1 in
-    let whole = b.rows ++ on.row ∷ on.more in
-    let unlike : NamesDiffer name whole = subst (λ (l : List _). NamesDiffer name l) on.longer differ in
-    let one_at : get_or whole k x ≡ x = get_or_append_left b.rows (on.row ∷ on.more) x k twice.2 ∙ twice.3 in
-    let other_at : get_or whole (length b.rows) x ≡ on.row = get_or_at b.rows on.row on.more x (length b.rows) refl in
-    unlike k (length b.rows) x twice.2 (omega (arith, length-append b.rows (on.row ∷ on.more))) (ap name one_at ∙ twice.4 ∙ ap name (sym other_at))
+    named-twice name b.rows on.more on.row twice.1 twice.0 twice.2 twice.3 twice.4 (subst (λ (l : List Row). NamesDiffer name l) on.longer differ)
 
 -- what a reader's fault says: no rows
 pub garbled-none : {Row X : Type 0} (spells : List ℕ → Row → Type 0) (one : (line : List ℕ) (a b : Row) → spells line a → spells line b → a ≡ b) (name : Row → List ℕ) (bytes : List ℕ) (r : Result X ListFault) → IfErr r (IsBadAt spells name bytes) → IsGarbled r → (rows : List Row) → Lines spells bytes rows → NamesDiffer name rows → ⊥

@@ -5,3 +5,4 @@ pub mod Reading
 pub mod Exact
 pub mod Sorting
 pub mod Printed
+pub mod Ordered

@@ -1,4 +1,4 @@
-use Rattle.std.proofs.Common.{◌≡◌, ◌≢◌, ℕ, zero, suc, ◌+◌, ◌<◌, ◌≤◌, ◌^◌, ◌⊎◌, true, false, inl, inr, List, [], ◌∷◌, ◌++◌, Result, Ok, Err, Option, Some, None, IfSome, IfNone, length, get_or, refl, arith, ap, ◌∙◌, sym, rules}
+use Rattle.std.proofs.Common.{◌≡◌, ◌≢◌, ℕ, zero, suc, ◌<◌, ◌^◌, ◌⊎◌, true, false, inl, inr, List, [], ◌∷◌, Result, Ok, Err, IfSome, IfNone, length, get_or, refl, arith, sym}
 use Rattle.zr_listing.specs.Columns.{has_printed_front}
 use Rattle.std.proofs.lemmas.Bool.Decides.{nat_tests}
 use Rattle.std.specs.Fmt.{decimal}

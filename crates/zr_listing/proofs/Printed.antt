@@ -1,21 +1,21 @@
-use Rattle.std.proofs.Common.{◌≡◌, ◌≢◌, ◌==◌, ◌&&◌, ◌||◌, ℕ, zero, suc, ◌+◌, ◌<◌, ◌≤◌, ◌%◌, ◌^◌, Bool, true, false, not, nat_lt, nat_eq, List, [], ◌∷◌, ◌++◌, Option, Some, None, IfSome, All, length, map, take, append_assoc, get_or, slice_index, refl, arith, ap, ◌∙◌, sym, subst, rules, lit≤}
+use Rattle.std.proofs.Common.{◌≡◌, ◌==◌, ◌&&◌, ◌||◌, ℕ, suc, ◌+◌, ◌<◌, ◌≤◌, ◌%◌, ◌^◌, Bool, true, false, not, nat_lt, nat_eq, List, [], ◌∷◌, ◌++◌, Option, Some, None, IfSome, All, length, map, take, append_assoc, get_or, slice_index, refl, arith, ap, ◌∙◌, sym, subst, lit≤}
 use Rattle.std.specs.Prelude.{codes, if◌then◌else◌}
 use Rattle.std.specs.Cmp.Lexicographic.{pointwise}
 use Rattle.std.specs.Fmt.{decimal}
-use Rattle.std.specs.List.{AllByRecursion, AllZip, flat_map, slice_split}
+use Rattle.std.specs.List.{AllByRecursion, AllZip, flat_map}
 use Rattle.std.proofs.lemmas.Bool.Decides.{nat_tests}
 use Rattle.std.proofs.lemmas.Fmt.{decimal_by_steps}
 use Rattle.std.proofs.lemmas.List.Elements.{All-from_recursion, recursion_from_All, All-more}
 use Rattle.std.proofs.lemmas.List.{take_all, take_more, flat_map_more}
 use Rattle.std.proofs.lemmas.List.Splits.{slice_split_none, slice_split_at}
-use Rattle.zr_names.specs.Names.{IsName, is_alphanumeric, is_name_byte, path_is_bad, name_is_bad, token_is_bad, slash_is_bad, begins_component, is_dots}
+use Rattle.zr_names.specs.Names.{IsName, is_name_byte, path_is_bad, name_is_bad, token_is_bad, slash_is_bad, begins_component, is_dots}
 use Rattle.zr_names.specs.declared.names.TheConstants.{PATH_LIMIT, NAME_LIMIT, TOKEN_LIMIT}
 use Rattle.zr_world.specs.Pools.{is_mark}
 use Rattle.zr_world.specs.declared.version.SetRow.{SetRow}
 use Rattle.zr_world.specs.declared.version.VersionName.{VersionName}
 use Rattle.zr_world.specs.declared.version.VersionName.TheVariants.{Snap, Mark}
 use Rattle.zr_world.specs.declared.version.VersionRow.{VersionRow}
-use Rattle.zr_listing.specs.Columns.{parted, columns, full_name, IsSetLine, IsVersionLine, IsToken, IsSuffix, IsRefs}
+use Rattle.zr_listing.specs.Columns.{columns, full_name, IsSetLine, IsVersionLine, IsToken, IsSuffix, IsRefs}
 use Rattle.zr_listing.specs.Lines.{lines_of, Lines}
 use Rattle.zr_listing.specs.Order.{bare_name}
 use Rattle.zr_listing.specs.Printing.{ended, with_tabs, set_line, flag_text, token_text, refs_text, version_line, IsSetRow, IsVersionRow}

@@ -1,4 +1,4 @@
-use Rattle.std.proofs.Common.{◌≡◌, ◌≢◌, ℕ, zero, suc, ◌+◌, ◌<◌, ◌≤◌, ◌==◌, ◌||◌, Bool, true, false, not, cond, List, [], ◌∷◌, ◌++◌, length, get_or, refl, arith, ap, ◌∙◌, sym, subst, rules, append_assoc, length-append, Bor, Any, AllPairs}
+use Rattle.std.proofs.Common.{◌≡◌, ◌≢◌, ℕ, suc, ◌+◌, ◌<◌, ◌≤◌, ◌==◌, ◌||◌, Bool, true, false, not, cond, List, [], ◌∷◌, ◌++◌, length, get_or, refl, arith, ap, ◌∙◌, sym, subst, append_assoc, length-append, Bor, Any}
 use Rattle.std.specs.List.{AllZip, list_any, join_with_byte}
 use Rattle.std.specs.Ordering.{nat_cmp, is_eq}
 use Rattle.std.specs.declared.cmp.Ordering.{Ordering}
@@ -131,7 +131,7 @@ more spells name bytes rest rows rows' names names' row after key r b new adds p
   each = zip-push spells r.earlier rows b.line row r.each b.spelled;
   differ = all_pairs_push (λ a b. name a ≢ name b) rows row r.differ (λ k d inside same.
       let there : Any (λ other. ties key.now (name other) ≡ true) rows =
-          (k, get_or rows k d, inside, get_or_default rows k (get_or rows k d) d inside, rw (b.named row b.spelled ∙ sym same) (ties-itself (name (get_or rows k d)))) in
+      (k, get_or rows k d, inside, get_or_default rows k (get_or rows k d) d inside, rw (b.named row b.spelled ∙ sym same) (ties-itself (name (get_or rows k d)))) in
       let found = list_any-from_Any (λ other. ties key.now (name other)) rows there in
       let missing = sym (r.seen key) ∙ new in
       cc);

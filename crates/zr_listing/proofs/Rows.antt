@@ -1,17 +1,15 @@
-use Rattle.std.proofs.Common.{◌≡◌, ◌==◌, ℕ, ◌+◌, ◌<◌, ◌^◌, Bool, true, false, List, [], ◌∷◌, ◌++◌, Option, Some, None, IfSome, IfNone, Result, Ok, Err, length, slice_index, refl, arith, ap, ◌∙◌, sym, subst, rules}
+use Rattle.std.proofs.Common.{◌≡◌, ℕ, Bool, List, [], ◌∷◌, ◌++◌, Option, Some, None, IfSome, IfNone, Result, Ok, Err, refl, arith, ap, ◌∙◌, sym, subst}
 use Rattle.std.specs.Option.{MatchOption}
 use Rattle.std.specs.Result.{IsErrAnd}
 use Rattle.std.proofs.lemmas.List.{append_cancel_left}
 use Rattle.std.proofs.lemmas.Fmt.{decimal_injective}
-use Rattle.std.specs.Fmt.{decimal}
-use Rattle.zr_names.specs.Names.{IsName, path_is_bad, name_is_bad, token_is_bad}
-use Rattle.zr_names.specs.declared.names.TheConstants.{PATH_LIMIT, NAME_LIMIT, TOKEN_LIMIT}
-use Rattle.zr_names.specs.declared.unit.Guid.{Guid}
+use Rattle.zr_names.specs.Names.{IsName, token_is_bad}
+use Rattle.zr_names.specs.declared.names.TheConstants.{TOKEN_LIMIT}
 use Rattle.zr_world.specs.declared.version.SetRow.{SetRow}
 use Rattle.zr_world.specs.declared.version.VersionName.{VersionName}
 use Rattle.zr_world.specs.declared.version.VersionName.TheVariants.{Snap, Mark}
 use Rattle.zr_world.specs.declared.version.VersionRow.{VersionRow}
-use Rattle.zr_listing.specs.Columns.{full_name, columns, IsPath, IsToken, IsSetLine, IsSuffix, IsVersionName, IsNumber, IsRefs, IsVersionLine}
+use Rattle.zr_listing.specs.Columns.{full_name, columns, IsToken, IsSetLine, IsSuffix, IsVersionName, IsNumber, IsRefs, IsVersionLine}
 use Rattle.zr_listing.specs.Reading.{Finds}
 use Rattle.zr_listing.specs.declared.faults.LineFault.{LineFault}
 use Rattle.zr_listing.specs.declared.faults.LineFault.TheVariants as fault

@@ -1,8 +1,8 @@
-use Rattle.std.proofs.Common.{◌≡◌, ◌≢◌, ◌==◌, ◌&&◌, ◌||◌, ℕ, zero, suc, ◌+◌, ◌<◌, ◌≤◌, Bool, true, false, nat_lt, cond, List, [], ◌∷◌, ◌++◌, length, get_or, refl, arith, ap, ◌∙◌, sym, subst, All, AllPairs, IsPermutation, rules}
-use Rattle.std.specs.List.{AllByRecursion, IsDistinct}
+use Rattle.std.proofs.Common.{◌≡◌, ◌≢◌, ◌==◌, ◌&&◌, ◌||◌, ℕ, suc, Bool, true, false, nat_lt, cond, List, [], ◌∷◌, get_or, refl, arith, ap, sym, All, AllPairs, IsPermutation}
+use Rattle.std.specs.List.{IsDistinct}
 use Rattle.std.specs.List.Sorted.{IsSortedBy}
 use Rattle.std.specs.Cmp.{IsTotalOrder, IsStrictWeakOrder}
-use Rattle.std.specs.Cmp.Lexicographic.{slice_cmp, pointwise, nat_list_cmp_total, nat_list_eq_equiv}
+use Rattle.std.specs.Cmp.Lexicographic.{slice_cmp, nat_list_cmp_total, nat_list_eq_equiv}
 use Rattle.std.specs.Ordering.{nat_cmp, is_lt, ordering_then, ordering_reverse}
 use Rattle.std.specs.declared.cmp.Ordering.{Ordering}
 use Rattle.std.specs.declared.cmp.Ordering.TheVariants.{Less, Equal, Greater}
@@ -26,8 +26,8 @@ use Rattle.zr_listing.specs.Order.{row_cmp, kind_rank, bare_name}
 row_total : IsTotalOrder row_cmp
 row_total =
     then_total (on_total (λ (r : VersionRow). r.txg) nat_cmp_total)
-      (then_total (on_total (λ (r : VersionRow). kind_rank r.name) nat_cmp_total)
-        (on_total (λ (r : VersionRow). bare_name r.name) nat_list_cmp_total))
+    (then_total (on_total (λ (r : VersionRow). kind_rank r.name) nat_cmp_total)
+    (on_total (λ (r : VersionRow). bare_name r.name) nat_list_cmp_total))
 
 pub row_ranks : IsStrictWeakOrder (λ a b. is_lt (row_cmp a b))
 row_ranks = ranks_by row_total (λ (r : VersionRow). r)
@@ -43,7 +43,7 @@ differ-distinct name [] differ = tt
 differ-distinct {Row} name (row ∷ rows) differ =
     let P : Row → Type 0 = λ other. bytes_eq (name row) (name other) ≡ false in
     let first : All P rows = λ k d inside. not-false (bytes_eq (name row) (name (get_or rows k d))) (λ same.
-        differ 0 (suc k) d (omega arith) (omega arith) ((bytes_eq-Decides (name row) (name (get_or rows k d))).0 same)) in
+    differ 0 (suc k) d (omega arith) (omega arith) ((bytes_eq-Decides (name row) (name (get_or rows k d))).0 same)) in
     (recursion_from_All P rows first, differ-distinct name rows (λ i j d less inside. differ (suc i) (suc j) d (omega arith) (omega arith)))
 
 distinct-differ : {Row : Type 0} (name : Row → List ℕ) (rows : List Row) → IsDistinct (λ a b. bytes_eq (name a) (name b)) rows → NamesDiffer name rows
@@ -54,9 +54,9 @@ distinct-differ {Row} name (row ∷ rows) distinct =
     let R : Row → Row → Type 0 = λ a b. name a ≢ name b in
     let first = All-from_recursion P rows distinct.0 in
     AllPairs-cons R row rows (λ k d inside same.
-        let ties = (bytes_eq-Decides (name row) (name (get_or rows k d))).1 same in
-        let apart = first k d inside in
-        cc) (distinct-differ name rows distinct.1)
+    let ties = (bytes_eq-Decides (name row) (name (get_or rows k d))).1 same in
+    let apart = first k d inside in
+    cc) (distinct-differ name rows distinct.1)
 
 -- names that differ stay so when the rows change places
 pub differ-permutation : {Row : Type 0} (name : Row → List ℕ) (xs ys : List Row) → IsPermutation xs ys → NamesDiffer name xs → NamesDiffer name ys
@@ -92,8 +92,8 @@ stands a b low other =
     let later : nat_lt n m ≡ false → (n == m) ≡ false → nat_lt m n ≡ true = λ h k. grind (arith, nat_tests) in
     let same : (n == m) ≡ true → (m == n) ≡ true = λ h. grind (arith, nat_tests) in
     txg-cases (nat_lt n m) (n == m) (nat_lt m n) (m == n)
-      (ordering_then (nat_cmp (kind_rank b.name) (kind_rank a.name)) (slice_cmp nat_cmp (bare_name b.name) (bare_name a.name)))
-      (name_is_below a.name b.name) later same low (λ next. name-below a.name b.name next other)
+    (ordering_then (nat_cmp (kind_rank b.name) (kind_rank a.name)) (slice_cmp nat_cmp (bare_name b.name) (bare_name a.name)))
+    (name_is_below a.name b.name) later same low (λ next. name-below a.name b.name next other)
 
 -- rows of different names that are sorted are a list of versions
 pub version-list : (full : VersionRow → List ℕ) → ((a b : VersionRow) → a.name ≡ b.name → full a ≡ full b) → (rows : List VersionRow) → IsSortedBy (λ a b. is_lt (row_cmp a b)) rows → NamesDiffer full rows → IsVersionList rows

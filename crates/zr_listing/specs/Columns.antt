@@ -1,10 +1,9 @@
-use Rattle.std.specs.Prelude.{◌≡◌, ◌==◌, ◌&&◌, ◌||◌, ℕ, ◌<◌, ◌^◌, Bool, true, false, not, slice_index, List, [], ◌∷◌, ◌++◌, Option, Some, None, IfSome, codes, length, nat_eq}
+use Rattle.std.specs.Prelude.{◌≡◌, ◌==◌, ◌&&◌, ◌||◌, ℕ, ◌<◌, ◌^◌, Bool, not, slice_index, List, [], ◌∷◌, ◌++◌, Option, Some, None, codes, length, nat_eq}
 use Rattle.std.specs.List.{slice_split}
 use Rattle.std.specs.Cmp.Lexicographic.{pointwise}
 use Rattle.std.specs.Fmt.{decimal}
 use Rattle.zr_names.specs.Names.{IsName, path_is_bad, name_is_bad, token_is_bad}
 use Rattle.zr_names.specs.declared.names.TheConstants.{PATH_LIMIT, NAME_LIMIT, TOKEN_LIMIT}
-use Rattle.zr_world.specs.Pools.{is_mark}
 use Rattle.zr_world.specs.declared.version.SetRow.{SetRow}
 use Rattle.zr_world.specs.declared.version.VersionName.{VersionName}
 use Rattle.zr_world.specs.declared.version.VersionName.TheVariants.{Snap, Mark}

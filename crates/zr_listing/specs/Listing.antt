@@ -1,5 +1,4 @@
-use Rattle.std.specs.Prelude.{◌≡◌, List, ℕ, Result, Ok, Err, IsPermutation, ⊤}
-
+use Rattle.std.specs.Prelude.{List, ℕ, Result, Ok, Err, IsPermutation, ⊤}
 use Rattle.zr_listing.specs.Columns.{IsSetLine, IsVersionLine}
 use Rattle.zr_listing.specs.Lines.{Lines}
 use Rattle.zr_listing.specs.declared.faults.ListFault.{ListFault}

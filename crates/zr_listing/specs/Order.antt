@@ -20,5 +20,5 @@ bare_name (Mark name) = name
 abbrev pub row_cmp : VersionRow → VersionRow → Ordering
 row_cmp a b =
     ordering_then (nat_cmp a.txg b.txg)
-      (ordering_then (nat_cmp (kind_rank a.name) (kind_rank b.name))
-        (slice_cmp nat_cmp (bare_name a.name) (bare_name b.name)))
+    (ordering_then (nat_cmp (kind_rank a.name) (kind_rank b.name))
+    (slice_cmp nat_cmp (bare_name a.name) (bare_name b.name)))

@@ -35,7 +35,7 @@ refs_text (Mark name) refs = codes "-"
 abbrev pub version_line : List ℕ → VersionRow → List ℕ
 version_line path row =
     with_tabs (full_name path row.name ∷ decimal row.guid.0 ∷ decimal row.txg ∷ decimal row.creation
-      ∷ refs_text row.name row.refs ∷ [])
+    ∷ refs_text row.name row.refs ∷ [])
 
 -- with a newline at the end
 abbrev pub ended : List ℕ → List ℕ

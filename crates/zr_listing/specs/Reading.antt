@@ -1,4 +1,4 @@
-use Rattle.std.specs.Prelude.{◌≡◌, Result, Ok, Err, ⊤}
+use Rattle.std.specs.Prelude.{Result, Ok, Err, ⊤}
 use Rattle.zr_names.specs.declared.reading.NameFault.{NameFault}
 use Rattle.zr_names.specs.declared.reading.NameFault.TheVariants as name
 use Rattle.zr_listing.specs.declared.faults.LineFault.{LineFault}

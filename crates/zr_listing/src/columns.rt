@@ -93,6 +93,16 @@ pub(crate) fn version_columns(line: &[u8]) -> Option<VersionColumns<'_>>
 {
     let (name, rest) = cut(line, b'\t')?;
     let (guid, rest) = cut(rest, b'\t')?;
-    let SetColumns { path: txg, flag: creation, token: refs } = set_columns(rest)?;
-    Some(VersionColumns { name, guid, txg, creation, refs })
+    let SetColumns {
+        path: txg,
+        flag: creation,
+        token: refs,
+    } = set_columns(rest)?;
+    Some(VersionColumns {
+        name,
+        guid,
+        txg,
+        creation,
+        refs,
+    })
 }

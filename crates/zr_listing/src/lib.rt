@@ -11,4 +11,6 @@ pub mod faults;
 mod lines;
 pub mod print;
 pub mod sets;
+#[cfg(test)]
+mod tests;
 pub mod versions;

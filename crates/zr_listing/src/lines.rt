@@ -49,7 +49,11 @@ fn first_row<'a, K: Kind>(
         return Err(LineFault::Bad);
     };
     let row = kind.row(alloc, line)?;
-    Ok(FirstRow { row, name: kind.name_in(line), after })
+    Ok(FirstRow {
+        row,
+        name: kind.name_in(line),
+        after,
+    })
 }
 
 /// Reads the rows of a listing, a line for each.

@@ -15,7 +15,6 @@ ghost use Rattle.zr_listing.specs.Printing.{
   token_text,
   version_line,
 };
-
 ghost use Rattle.zr_world.specs.Pools.{IsSetList, IsVersionList};
 
 use std::alloc::{AllocError, Global};

@@ -140,9 +140,14 @@ fn sort_rows(rows: &mut Vec<VersionRow>) -> Result<(), AllocError>
 
 /// Reads a listing of the snapshots and bookmarks of the dataset at this path (zfs-list(8), with
 /// `-H -p -d 1 -t snapshot,bookmark -o name,guid,createtxg,creation,userrefs`).
-pub fn read_versions(alloc: Global, path: &Path, bytes: &[u8]) -> Result<Rows<VersionRow>, ListFault>
+pub fn read_versions(
+    alloc: Global,
+    path: &Path,
+    bytes: &[u8],
+) -> Result<Rows<VersionRow>, ListFault>
     ensures rows { IfOk result (IsVersionListing path.now bytes.now) }
     ensures in_order { IfOk result IsVersionList }
+    ensures only { IfOk result (λ rows. (others : List VersionRow) → IsVersionListing path.now bytes.now others → others ≡ rows) }
     ensures garbled { IfErr result (IsBadAt (IsVersionLine path.now) (λ row. full_name path.now row.name) bytes.now) }
     ensures none { IsGarbled result → (rows : List VersionRow) → IsVersionListing path.now bytes.now rows → ⊥ }
 {

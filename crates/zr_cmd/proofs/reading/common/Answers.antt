@@ -1,7 +1,7 @@
-use Rattle.std.proofs.Common.{◌≡◌, ◌<◌, ◌∙◌, sym, Bor, List, ℕ, length, map, take, arith, rules, []}
+use Rattle.std.proofs.Common.{Bor, List, ℕ, map, arith, []}
 use Rattle.std.proofs.lemmas.List.{take_more_same, length-map}
 use Rattle.std.specs.String.{string_bytes}
-use Rattle.zr_cmd.specs.Steps.{IsCommon, texts}
+use Rattle.zr_cmd.specs.Steps.{texts}
 use Rattle.zr_cmd.proofs.reading.common.Goals as goal
 
 pub returns-then-not-word_is : goal.returns-then-not-word_is

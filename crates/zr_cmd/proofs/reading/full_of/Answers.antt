@@ -1,4 +1,4 @@
-use Rattle.std.proofs.Common.{◌≡◌, sym, subst}
+use Rattle.std.proofs.Common.{sym, subst}
 use Rattle.zr_names.specs.Names.{IsName, path_is_bad, name_is_bad}
 use Rattle.zr_names.specs.declared.names.TheConstants.{PATH_LIMIT, NAME_LIMIT}
 use Rattle.zr_cmd.proofs.Full.{full-parts, full-lacks}

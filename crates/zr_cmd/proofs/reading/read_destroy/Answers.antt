@@ -1,10 +1,10 @@
-use Rattle.std.proofs.Common.{◌≡◌, ◌<◌, ◌∙◌, List, ℕ, [], sym, subst, get_or, length, arith}
+use Rattle.std.proofs.Common.{List, ℕ, [], sym, subst, get_or, arith}
 use Rattle.std.proofs.lemmas.List.{length-map}
 use Rattle.std.specs.String.{string_bytes}
 use Rattle.zr_cmd.specs.Steps.{IsFull, texts}
 use Rattle.std.specs.Prelude.{codes}
 use Rattle.zr_cmd.proofs.Longest.{some-words}
-use Rattle.zr_cmd.proofs.Destroying.{bad-full, read-destroy, bad-rest}
+use Rattle.zr_cmd.proofs.Destroying.{bad-full, bad-rest}
 use Rattle.zr_cmd.proofs.reading.read_destroy.Goals as goal
 
 pub returns-then-words-eq1 : goal.returns-then-words-eq1

@@ -8,5 +8,5 @@ use Rattle.zr_exec.proofs.formed.are_versions.Given as goal
 abbrev pub invariant-loop-place : goal.invariant-loop-place
 invariant-loop-place l = record {
   in_order : PairsBelow (λ (a : Version) (b : Version). stands_before a.txg a.name b.txg b.name ≡ true) l.versions l.place;
-  names_differ : PairsBelow (λ (a : Version) (b : Version). a.name ≢ b.name) l.versions l.place
+  names_differ : PairsBelow (λ (a : Version) (b : Version). a.name ≢ b.name) l.versions l.place;
 }

@@ -1,4 +1,4 @@
-use Rattle.std.proofs.Common.{◌≡◌, sym, ◌∙◌, rules}
+use Rattle.std.proofs.Common.{sym, ◌∙◌, rules}
 use Rattle.zr_listing.proofs.Cutting.{parted-none, parted-first}
 use Rattle.zr_listing.proofs.columns.cut.Goals as goal
 

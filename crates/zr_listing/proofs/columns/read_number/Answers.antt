@@ -1,5 +1,4 @@
-use Rattle.std.proofs.Common.{◌≡◌, sym, ◌∙◌, IfSome, IfNone, ℕ, ◌<◌, ◌^◌}
-use Rattle.std.specs.Fmt.{decimal}
+use Rattle.std.proofs.Common.{sym, ◌∙◌}
 use Rattle.zr_listing.proofs.Numbers.{front-printed, printed, parsed-some, parsed-none}
 use Rattle.zr_listing.proofs.columns.read_number.Goals as goal
 

@@ -1,7 +1,6 @@
-use Rattle.std.proofs.Common.{◌≡◌, ◌∙◌, sym, ap, subst, get_or}
+use Rattle.std.proofs.Common.{get_or}
 use Rattle.zr_listing.specs.Columns.{IsSetLine}
 use Rattle.zr_listing.specs.Printing.{set_line, IsSetRow}
-use Rattle.zr_world.specs.declared.version.SetRow.{SetRow}
 use Rattle.zr_listing.proofs.Printed.{printed-more, valid-more, all-printed, all-valid, set_line-spelled}
 use Rattle.zr_listing.proofs.print.print_sets.Goals as goal
 

@@ -1,4 +1,4 @@
-use Rattle.std.proofs.Common.{◌≡◌, get_or}
+use Rattle.std.proofs.Common.{get_or}
 use Rattle.std.proofs.lemmas.List.Sorted.{IsPermutation-refl}
 use Rattle.zr_names.specs.Names.{IsName, path_is_bad}
 use Rattle.zr_names.specs.declared.names.TheConstants.{PATH_LIMIT}

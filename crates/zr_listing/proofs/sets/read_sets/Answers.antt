@@ -1,4 +1,4 @@
-use Rattle.std.proofs.Common.{◌≡◌, ◌∙◌, sym, rules, IfErr}
+use Rattle.std.proofs.Common.{◌∙◌, sym, rules, IfErr}
 use Rattle.zr_listing.specs.Columns.{IsSetLine}
 use Rattle.zr_listing.specs.Lines.{IsBadAt}
 use Rattle.zr_listing.proofs.Exact.{lines-one, garbled-none}
