@@ -14,5 +14,7 @@ pub mod printing;
 pub mod report;
 pub mod running;
 pub mod status;
+#[cfg(test)]
+mod tests;
 pub mod top;
 pub mod words;
