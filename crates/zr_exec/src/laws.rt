@@ -18,5 +18,4 @@ pub fn calls_are_read_by_the_rule()
     ensures answer { (command : Cmd) (ended : RunExit) (bytes : List ℕ) (given : Answer) →
         IsAnswer command ended bytes given → is_no_memory given ≡ false →
         answer_of command ended bytes ≡ given }
-{
-}
+{}

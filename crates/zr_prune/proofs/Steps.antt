@@ -216,15 +216,16 @@ begun jobs unit path names rows turns is list turns_are names_are =
 pub pruning-begun : (jobs : JobSet) (unit : Unit) (path : List ℕ) (names : List (List ℕ)) (turns : Transcript) → unit.work ≡ work.PruneSource path → HasTurned [] turns (cmd.Versions path) told.Done → names ≡ doomed_in jobs unit.job (listed path turns) → Pruning jobs unit path names [] turns
 pruning-begun jobs unit path names turns is turned names_are =
     by-answer turned.got turned.told_is turned.shape turned.turns_are where
-  by-reply : (r : Reply) → Fits (cmd.Versions path) (answer.Done r) → turns ≡ (cmd.Versions path, answer.Done r) ∷ [] → Pruning jobs unit path names [] turns
-  by-reply (reply.Versions rows) fits turns_are = begun jobs unit path names rows turns is fits turns_are names_are
-  by-reply (reply.Sets rows) fits turns_are = absurd fits
-  by-reply reply.Nothing fits turns_are = absurd fits
-  by-answer : (a : Answer) → told.Done ≡ told_of a → Fits (cmd.Versions path) a → turns ≡ (cmd.Versions path, a) ∷ [] → Pruning jobs unit path names [] turns
-  by-answer (answer.Done r) e fits turns_are = by-reply r fits turns_are
-  by-answer answer.Failed e fits turns_are = cc
-  by-answer (answer.Garbled line) e fits turns_are = cc
-  by-answer answer.NoMemory e fits turns_are = cc
+      by-reply : (r : Reply) → Fits (cmd.Versions path) (answer.Done r) → turns ≡ (cmd.Versions path, answer.Done r) ∷ [] → Pruning jobs unit path names [] turns
+      by-reply (reply.Versions rows) fits turns_are = begun jobs unit path names rows turns is fits turns_are names_are
+      by-reply (reply.Sets rows) fits turns_are = absurd fits
+      by-reply reply.Nothing fits turns_are = absurd fits
+
+      by-answer : (a : Answer) → told.Done ≡ told_of a → Fits (cmd.Versions path) a → turns ≡ (cmd.Versions path, a) ∷ [] → Pruning jobs unit path names [] turns
+      by-answer (answer.Done r) e fits turns_are = by-reply r fits turns_are
+      by-answer answer.Failed e fits turns_are = cc
+      by-answer (answer.Garbled line) e fits turns_are = cc
+      by-answer answer.NoMemory e fits turns_are = cc
 
 -- a prune unit ends where its listing failed
 pub listing-ends : (unit_work : Work) (own path : List ℕ) → unit_work ≡ work.PruneSource own → GoesOn unit_work (cmd.Versions path) answer.Failed → ⊥
