@@ -1,5 +1,6 @@
-ghost use Rattle.std.specs.Prelude.{◌≡◌, ◌+◌, ◌*◌, ◌%◌, ◌≤◌, None, IfSome};
+ghost use Rattle.std.specs.Prelude.{◌≡◌, ◌+◌, ◌*◌, ◌/◌, ◌%◌, ◌<◌, ◌≤◌, ◌↔◌, None, IsSome, IfSome};
 ghost use Rattle.std.specs.Duration.{as_nanos};
+ghost use Rattle.zr_names.specs.declared.moment.TheConstants.{END_OF_TIME};
 
 use std::time::{Duration, SystemTime};
 use std::{thread, time};
@@ -27,7 +28,9 @@ impl<C: time::Clock> RealClock<C> {
 fn next_second(now: Duration) -> Option<(Moment, Duration)>
     ensures whole { IfSome result (λ next. next.0 % 1_000 ≡ 0) }
     ensures reached { IfSome result (λ next. as_nanos now + as_nanos next.1 ≡ next.0 * 1_000_000) }
+    ensures later { IfSome result (λ next. 0 < as_nanos next.1) }
     ensures soon { IfSome result (λ next. as_nanos next.1 ≤ 1_000_000_000) }
+    ensures exists { IsSome result ↔ ((as_nanos now / 1_000_000_000 + 1) * 1_000 < END_OF_TIME) }
 {
     let second = now.as_secs().checked_add(1)?;
     let moment = Moment::new(second.checked_mul(1_000)?)?;
