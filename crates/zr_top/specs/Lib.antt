@@ -1,3 +1,4 @@
+pub mod Attempts
 pub mod Clock
 pub mod Status
 pub mod Stored

@@ -1,6 +1,8 @@
-ghost use Rattle.std.specs.Prelude.{◌≡◌, ◌≤◌, ◌<◌, All};
+ghost use Rattle.std.specs.Prelude.{◌≡◌, ◌≤◌, All, List, Option};
 ghost use Rattle.zr_names.specs.Count.{Rose};
+ghost use Rattle.zr_top.specs.Attempts.{Attempted, no_totals};
 ghost use Rattle.zr_top.specs.Units.{IsPruning};
+ghost use Rattle.zr_world.specs.declared.command.Entry.{Entry};
 
 use crate::running::{run_prune, run_scan};
 use std::alloc::{AllocError, Global};
@@ -16,7 +18,13 @@ struct Tally {
 }
 
 impl Tally {
-    fn new() -> Tally {
+    ghost use Rattle.std.specs.Prelude.{◌≡◌};
+    ghost use Rattle.zr_names.specs.Totals.{counted};
+    ghost use Rattle.zr_top.specs.Attempts.{no_totals};
+
+    fn new() -> Tally
+        ensures { result.totals ≡ no_totals }
+    {
         Tally {
             run: 1,
             totals: Totals::default(),
@@ -24,12 +32,16 @@ impl Tally {
     }
 
     /// Counts units that are due.
-    fn due(&mut self, units: usize) {
+    fn due(&mut self, units: usize)
+        ensures { self.new.totals ≡ record self.old.totals { due = self.new.totals.due } }
+    {
         self.totals.due = self.totals.due.saturating_add(units as u64);
     }
 
     /// Counts the outcome of a unit.
-    fn end(&mut self, outcome: &Outcome) {
+    fn end(&mut self, outcome: &Outcome)
+        ensures { self.new.totals ≡ counted outcome.now self.old.totals }
+    {
         self.run = self.run.saturating_add(1);
         self.totals.count(outcome);
     }
@@ -49,7 +61,9 @@ fn wait(waiting: &mut Vec<Unit>, jobs: &JobSet, unit: Unit) -> Result<(), AllocE
 fn wait_all(waiting: &mut Vec<Unit>, jobs: &JobSet, units: Vec<Unit>, tally: &mut Tally)
     requires units { All (IsPruning jobs.now) units.items }
     requires waiting { All (IsPruning jobs.now) waiting.old.items }
-    ensures { All (IsPruning jobs.now) waiting.new.items }
+    ensures waiting { All (IsPruning jobs.now) waiting.new.items }
+    ensures counted { (told : Option (List Entry)) →
+        Attempted jobs.now told told tally.old.totals tally.new.totals }
 {
     tally.due(units.len());
     for unit in units {
@@ -68,6 +82,7 @@ fn scan_all<Z: Zfs>(
     z: &mut Z,
 ) -> Vec<Unit>
     ensures units { All (IsPruning jobs.now) result.items }
+    ensures ran { Attempted jobs.now (Z.told z.old) (Z.told z.new) tally.old.totals tally.new.totals }
     ensures later { Z.faults z.old ≤ Z.faults z.new }
 {
     let mut waiting = Vec::new(alloc);
@@ -84,7 +99,8 @@ fn scan_all<Z: Zfs>(
 /// Runs the units in their order.
 fn run_all<Z: Zfs>(alloc: Global, jobs: &JobSet, units: Vec<Unit>, tally: &mut Tally, z: &mut Z)
     requires { All (IsPruning jobs.now) units.items }
-    ensures { Z.faults z.old ≤ Z.faults z.new }
+    ensures ran { Attempted jobs.now (Z.told z.old) (Z.told z.new) tally.old.totals tally.new.totals }
+    ensures later { Z.faults z.old ≤ Z.faults z.new }
 {
     for unit in units {
         let outcome = run_prune(alloc, jobs, unit, tally.run, z);
@@ -95,12 +111,14 @@ fn run_all<Z: Zfs>(alloc: Global, jobs: &JobSet, units: Vec<Unit>, tally: &mut T
 /// Runs all that is due at one moment: the scan of each job, and then the units that the scans found. No
 /// key of such a unit comes twice, so none is coalesced. With no moment nothing is due.
 pub fn once<Z: Zfs>(alloc: Global, jobs: &JobSet, moment: Option<Moment>, z: &mut Z) -> Totals
-    ensures { Z.faults z.old ≤ Z.faults z.new }
+    ensures ran { Attempted jobs.now (Z.told z.old) (Z.told z.new) no_totals result }
+    ensures later { Z.faults z.old ≤ Z.faults z.new }
 {
     let mut tally = Tally::new();
-    if let Some(moment) = moment {
-        let units = scan_all(alloc, jobs, moment, &mut tally, z);
-        run_all(alloc, jobs, units, &mut tally, z);
-    }
+    let Some(moment) = moment else {
+        return tally.totals;
+    };
+    let units = scan_all(alloc, jobs, moment, &mut tally, z);
+    run_all(alloc, jobs, units, &mut tally, z);
     tally.totals
 }

@@ -1,0 +1,72 @@
+use Rattle.std.specs.Prelude.{◌≡◌, ◌⊎◌, ℕ, false, List, [], ◌∷◌, Option, Some, None, All, flat_map, fold}
+use Rattle.zr_names.specs.declared.outcome.Outcome.{Outcome}
+use Rattle.zr_names.specs.declared.outcome.Outcome.TheVariants as outcome
+use Rattle.zr_names.specs.declared.totals.Totals.{Totals}
+use Rattle.zr_names.specs.declared.unit.Unit.{Unit}
+use Rattle.zr_names.specs.Totals.{counted}
+use Rattle.zr_world.specs.declared.command.Entry.{Entry}
+use Rattle.zr_world.specs.declared.command.Entry.TheVariants.{Begin}
+use Rattle.zr_world.specs.Answering.{appended}
+use Rattle.zr_permit.specs.declared.job.JobSet.{JobSet}
+use Rattle.zr_permit.specs.Jobs.{IsOfFile}
+use Rattle.zr_permit.specs.Result.{is_out_of_memory, ResultOf}
+use Rattle.zr_permit.specs.Transcript.{Legal, Transcript}
+use Rattle.zr_permit.specs.Turned.{calls}
+
+-- a unit that was due: how it ended, and where it was begun, its run number and its transcript
+pub record Attempt : Type 0 where
+  pub unit : Unit
+  pub begun : Option (ℕ × Transcript)
+  pub ended : Outcome
+
+-- what a unit leaves in a runner's record: a begun run, or nothing
+abbrev pub run_entries : Unit → Option (ℕ × Transcript) → List Entry
+run_entries unit None = []
+run_entries unit (Some begun) = Begin unit begun.0 ∷ calls begun.1
+
+abbrev pub entries : List Attempt → List Entry
+entries attempts = flat_map (λ (a : Attempt). run_entries a.unit a.begun) attempts
+
+-- a begun run is legal, and ended with its result unless memory was refused; only for want of memory a
+-- unit is not begun
+abbrev pub EndsWell : JobSet → Unit → Outcome → Option (ℕ × Transcript) → Type 0
+EndsWell jobs unit ended None = ended ≡ outcome.NoMemory
+EndsWell jobs unit ended (Some begun) =
+    Legal jobs unit begun.1 × (is_out_of_memory ended ≡ false → ResultOf jobs unit begun.1 ended)
+
+-- a unit of the job file that ended as its transcript says
+pub record IsGood (jobs : JobSet) (attempt : Attempt) : Type 0 where
+  pub of_file : IsOfFile jobs attempt.unit
+  pub ends_well : EndsWell jobs attempt.unit attempt.ended attempt.begun
+
+-- the totals with the outcomes of some units counted
+abbrev pub counted_all : List Attempt → Totals → Totals
+counted_all attempts totals = fold (λ (t : Totals) (a : Attempt). counted a.ended t) totals attempts
+
+-- some units of the job file were run: the runner's record has their begun runs more, each legal and with
+-- its result, and the totals count their outcomes
+pub record Attempted (jobs : JobSet) (before now : Option (List Entry)) (start totals : Totals) : Type 0 where
+  pub attempts : List Attempt
+  pub good : All (IsGood jobs) attempts
+  pub recorded : now ≡ appended before (entries attempts)
+  pub counted_are : totals ≡ record (counted_all attempts start) { due = totals.due }
+
+-- the totals before the first unit
+abbrev pub no_totals : Totals
+no_totals = record {
+  due = 0;
+  done = 0;
+  coalesced = 0;
+  taken = 0;
+  fresh = 0;
+  steps = 0;
+  uptodate = 0;
+  conflicts = 0;
+  destroyed = 0;
+  busy = 0;
+  placeholders = 0;
+  toolong = 0;
+  faults = 0;
+  garbled = 0;
+  nomemory = 0;
+}
