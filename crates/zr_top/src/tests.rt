@@ -242,7 +242,7 @@ fn refused_calls_start_no_child(rt: HostRuntime) -> Result<(), Fail> {
         let pools = pools(rt.alloc(), "tank", &THREE)?;
         let ended = call(&rt, &["once", name], file, pools, &[], &[])?;
         assert_eq!(rt; ended.printed.as_str(), printed);
-        assert_eq!(rt; ended.status, status, "at {printed}");
+        assert_eq!(rt; ended.status, status);
         assert_eq!(rt; ended.children.as_str(), "");
     }
     Ok(())
