@@ -1,3 +1,4 @@
 pub mod Scanned
 pub mod Refusing
 pub mod Attempting
+pub mod Recording

@@ -1,5 +1,6 @@
 pub mod Attempts
 pub mod Clock
+pub mod Records
 pub mod Status
 pub mod Stored
 pub mod Totals

@@ -45,6 +45,14 @@ is_of_run status.JobFile = false
 is_of_run status.Unreadable = false
 is_of_run other = true
 
+-- the status is one that comes where nothing was run
+abbrev pub is_unrun : Status → Bool
+is_unrun status.Clean = false
+is_unrun status.Conflict = false
+is_unrun status.ChildFault = false
+is_unrun status.Garbled = false
+is_unrun other = true
+
 -- the bytes of a job file are refused
 pub record IsRefused (bytes : List ℕ) : Type 0 where
   pub fault : JobFault

@@ -1,5 +1,6 @@
-ghost use Rattle.std.specs.Prelude.{◌≡◌, ◌≢◌, ◌⊎◌, IfErr};
-ghost use Rattle.zr_top.specs.Status.{Printed};
+ghost use Rattle.std.specs.Prelude.{true, ◌≡◌, ◌≢◌, ◌⊎◌, ◌≤◌, Err, IfErr, OnOk};
+ghost use Rattle.zr_pipe.specs.Faults.{Rose};
+ghost use Rattle.zr_top.specs.Status.{is_unrun, Printed};
 ghost use Rattle.zr_jobfile.specs.declared.JobFault.TheVariants.{NoMemory as OutOfMemory};
 
 use crate::status::Status;
@@ -8,7 +9,9 @@ use zr_pipe::{PutFault, Sink};
 
 /// Writes some bytes.
 fn put<S: Sink>(out: &mut S, text: &[u8]) -> Result<(), Status>
-    ensures { IfErr result (λ status. (status ≡ Status.Unwritable) ⊎ (status ≡ Status.OutOfMemory)) }
+    ensures fault { IfErr result (λ status. (status ≡ Status.Unwritable) ⊎ (status ≡ Status.OutOfMemory)) }
+    ensures cause { result ≡ Err Status.Unwritable → Rose (S.faults out.old) (S.faults out.new) }
+    ensures ok_keeps { OnOk result (S.faults out.new ≡ S.faults out.old) }
 {
     match out.put(text) {
         Ok(()) => Ok(()),
@@ -19,7 +22,9 @@ fn put<S: Sink>(out: &mut S, text: &[u8]) -> Result<(), Status>
 
 /// Prints a line and gives the status, or the fault of the output.
 pub fn print<S: Sink>(out: &mut S, line: &str, status: Status) -> Status
-    ensures { Printed status result }
+    requires { status ≢ Status.Unwritable }
+    ensures printed { Printed status result }
+    ensures cause { result ≡ Status.Unwritable → Rose (S.faults out.old) (S.faults out.new) }
 {
     if let Err(fault) = put(out, line.as_bytes()) {
         return fault;
@@ -34,6 +39,8 @@ pub fn print<S: Sink>(out: &mut S, line: &str, status: Status) -> Status
 pub fn refuse<S: Sink>(out: &mut S, fault: JobFault) -> Status
     ensures refused { fault ≢ OutOfMemory → Printed Status.JobFile result }
     ensures memory { fault ≡ OutOfMemory → result ≡ Status.OutOfMemory }
+    ensures cause { result ≡ Status.Unwritable → Rose (S.faults out.old) (S.faults out.new) }
+    ensures unrun { is_unrun result ≡ true }
 {
     match fault {
         JobFault::TooManyBytes => print(out, "job file: TooMany Bytes", Status::JobFile),

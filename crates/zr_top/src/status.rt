@@ -22,7 +22,7 @@ pub enum Status {
 }
 
 impl Status {
-    ghost use Rattle.std.specs.Prelude.{◌≡◌};
+    ghost use Rattle.std.specs.Prelude.{◌≡◌, ◌≢◌};
     ghost use Rattle.zr_top.specs.Status.{code_of, status_of};
 
     /// The program's exit status.
@@ -45,7 +45,8 @@ impl Status {
     /// How units ended, by their totals: the first of want of memory, a garbled listing, a failed child,
     /// and a conflict or a name too long.
     pub fn of(totals: &Totals) -> Status
-        ensures { result ≡ status_of totals.now }
+        ensures of { result ≡ status_of totals.now }
+        ensures no_output { result ≢ Status.Unwritable }
     {
         if totals.nomemory > 0 {
             Status::OutOfMemory

@@ -1,7 +1,10 @@
-ghost use Rattle.std.specs.Prelude.{◌≡◌, ◌≢◌, ◌≤◌, ◌<◌, ◌+◌, ℕ, List, Some, None, Contains, [], ◌∷◌, map, take, true, vec_len};
+ghost use Rattle.std.specs.Prelude.{◌⊎◌, drop, ◌≡◌, ◌≢◌, ◌≤◌, ◌<◌, ◌+◌, ℕ, List, Some, None, Contains, [], ◌∷◌, map, take, true, vec_len};
 ghost use Rattle.std.specs.String.{string_bytes};
 ghost use Rattle.zr_jobfile.specs.declared.TheConstants.{FILE_LIMIT};
-ghost use Rattle.zr_top.specs.Status.{is_of_run, IsRefused, Printed, RefusedOrUnread};
+ghost use Rattle.zr_pipe.specs.Faults.{Rose};
+ghost use Rattle.zr_top.specs.Records.{FirstRan, RanBytes, RanFile, RanJobs, RanOnce, Unrun};
+ghost use Rattle.zr_top.specs.declared.status.Status.{Status};
+ghost use Rattle.zr_top.specs.Status.{code_of, is_of_run, IsRefused, Printed, RefusedOrUnread};
 ghost use Rattle.zr_top.specs.Words.{file_of};
 
 use crate::clock::Clock;
@@ -26,7 +29,9 @@ fn once_with<R: Spawn, C: Clock + Drop>(
     jobs: &JobSet,
     child: R,
     mut clock: C,
-) -> (Option<Totals>, R) {
+) -> (Option<Totals>, R)
+    ensures { RanOnce jobs.now (R.told child) (R.told result.1) result.0 }
+{
     let Ok(program) = String::from_str(alloc, "zfs") else {
         return (None, child);
     };
@@ -44,7 +49,10 @@ fn once_with_first<R: Spawn + Drop, C: Clock + Drop>(
     clock: C,
 ) -> Option<Totals>
     requires { 0 < vec_len children.old }
-    ensures { vec_len children.new ≡ vec_len children.old }
+    ensures len { vec_len children.new ≡ vec_len children.old }
+    ensures first { FirstRan jobs.now (map (λ r. R.told r) children.old.items)
+        (map (λ r. R.told r) children.new.items) result }
+    ensures others { drop 1 children.new.items ≡ drop 1 children.old.items }
 {
     let child = children.remove(0);
     let (totals, child) = once_with(alloc, jobs, child, clock);
@@ -65,6 +73,10 @@ fn run_jobs<R: Spawn + Drop, C: Clock + Drop, S: Sink>(
     requires { 0 < vec_len children.old }
     ensures len { vec_len children.new ≡ vec_len children.old }
     ensures of_run { is_of_run result ≡ true }
+    ensures ran { RanJobs jobs.now (map (λ r. R.told r) children.old.items)
+        (map (λ r. R.told r) children.new.items) result }
+    ensures others { drop 1 children.new.items ≡ drop 1 children.old.items }
+    ensures unwritable { result ≡ Status.Unwritable → Rose (S.faults out.old) (S.faults out.new) }
 {
     let Some(totals) = once_with_first(alloc, jobs, children, clock) else {
         return Status::OutOfMemory;
@@ -89,6 +101,12 @@ fn run_file<R: Spawn + Drop, C: Clock + Drop, S: Sink>(
     ensures refused_only { result ≡ Status.JobFile → IsRefused bytes.now }
     ensures no_usage { result ≢ Status.Usage }
     ensures readable { result ≢ Status.Unreadable }
+    ensures ran { Unrun (map (λ r. R.told r) children.old.items)
+        (map (λ r. R.told r) children.new.items) result
+        ⊎ RanBytes bytes.now (map (λ r. R.told r) children.old.items)
+        (map (λ r. R.told r) children.new.items) result }
+    ensures others { drop 1 children.new.items ≡ drop 1 children.old.items }
+    ensures unwritable { result ≡ Status.Unwritable → Rose (S.faults out.old) (S.faults out.new) }
 {
     match read_jobs(alloc, bytes) {
         Ok(jobs) => run_jobs(alloc, &jobs, children, clock, out),
@@ -98,7 +116,8 @@ fn run_file<R: Spawn + Drop, C: Clock + Drop, S: Sink>(
 
 /// Prints that a file can't be read.
 fn unreadable<S: Sink>(alloc: Global, out: &mut S, file: &str) -> Status
-    ensures { Printed Status.Unreadable result }
+    ensures printed { Printed Status.Unreadable result }
+    ensures unwritable { result ≡ Status.Unwritable → Rose (S.faults out.old) (S.faults out.new) }
 {
     match format!(in alloc; "cannot read {file}") {
         Ok(line) => print(out, line.as_str(), Status::Unreadable),
@@ -122,6 +141,12 @@ fn run_named<F: Files, R: Spawn + Drop, C: Clock + Drop, S: Sink>(
     ensures refused_only { result ≡ Status.JobFile → (whole : List ℕ) →
         F.content files.old file.now ≡ Some whole → IsRefused (take (FILE_LIMIT + 1) whole) }
     ensures no_usage { result ≢ Status.Usage }
+    ensures ran { RanFile (F.content files.old file.now) (map (λ r. R.told r) children.old.items)
+        (map (λ r. R.told r) children.new.items) result }
+    ensures others { drop 1 children.new.items ≡ drop 1 children.old.items }
+    ensures unwritable { result ≡ Status.Unwritable → Rose (S.faults out.old) (S.faults out.new) }
+    ensures unreadable { result ≡ Status.Unreadable →
+        Rose (F.faults files.old) (F.faults files.new) × (F.failed files.new ≡ Some file.now) }
 {
     match files.read(file, FILE_LIMIT) {
         Ok(bytes) => run_file(alloc, bytes.as_slice(), children, clock, out),
@@ -165,6 +190,19 @@ where
     ensures refused { (file whole : List ℕ) →
         file_of (map string_bytes words.now) ≡ Some file → F.content files.old file ≡ Some whole →
         IsRefused (take (FILE_LIMIT + 1) whole) → Contains (3 ∷ 7 ∷ 8 ∷ 9 ∷ []) result }
+
+    // The record: the first runner has that of legal runs of the file's units more, and the status is that
+    // of their outcomes, where the output does not fail; the other runners are as they were.
+    ensures ran { (file : List ℕ) → file_of (map string_bytes words.now) ≡ Some file →
+        (given : Status) × (result ≡ code_of given) × RanFile (F.content files.old file)
+        (map (λ r. R.told r) children.old.items) (map (λ r. R.told r) children.new.items) given }
+    ensures unrun { file_of (map string_bytes words.now) ≡ None → children.new.items ≡ children.old.items }
+    ensures others { drop 1 children.new.items ≡ drop 1 children.old.items }
+
+    // The file and the output: 7 and 8 only where the count of their faults rose in this call.
+    ensures unreadable { result ≡ 7 → Rose (F.faults files.old) (F.faults files.new) ×
+        (file_of (map string_bytes words.now) ≡ F.failed files.new) }
+    ensures unwritable { result ≡ 8 → Rose (S.faults out.old) (S.faults out.new) }
 {
     match once_file(words) {
         Some(file) => run_named(alloc, file, files, children, clock, out).code(),

@@ -1,6 +1,7 @@
 use Rattle.std.proofs.Common.{◌∙◌, inl, subst, sym}
 use Rattle.zr_top.specs.Status.{IsRefused}
 use Rattle.zr_top.proofs.Refusing.{unread, unread-not-refused}
+use Rattle.zr_top.proofs.Recording.{ran-file, unread-unrun}
 use Rattle.zr_top.proofs.top.run_named.Goals as goal
 
 pub returns-in-Ok-clause-refused : goal.returns-in-Ok-clause-refused
@@ -14,8 +15,15 @@ returns-in-Ok-clause-refused_only g c = λ is whole there.
     subst IsRefused bytes (c.run_file.ensures.refused_only is)
 
 pub returns-in-Err-Failed-clause-refused : goal.returns-in-Err-Failed-clause-refused
-returns-in-Err-Failed-clause-refused g c = λ whole there refused. unread _ c.unreadable.ensures
+returns-in-Err-Failed-clause-refused g c = λ whole there refused. unread _ c.unreadable.ensures.printed
 
 pub returns-in-Err-Failed-clause-refused_only : goal.returns-in-Err-Failed-clause-refused_only
 returns-in-Err-Failed-clause-refused_only g c = λ is whole there.
-    absurd (unread-not-refused _ c.unreadable.ensures is)
+    absurd (unread-not-refused _ c.unreadable.ensures.printed is)
+
+pub returns-in-Ok-clause-ran : goal.returns-in-Ok-clause-ran
+returns-in-Ok-clause-ran g c =
+    ran-file _ _ _ _ _ _ c.as_slice.ensures.value c.in-Ok.ensures.bytes c.run_file.ensures.ran
+
+pub returns-in-Err-Failed-clause-ran : goal.returns-in-Err-Failed-clause-ran
+returns-in-Err-Failed-clause-ran g c = unread-unrun _ _ _ c.unreadable.ensures.printed
