@@ -16,7 +16,6 @@ use Rattle.zr_permit.specs.Runs.{HasRun, Ran}
 use Rattle.zr_top.specs.Units.{IsPruning}
 use Rattle.zr_top.specs.Attempts.{Attempt, Attempted, counted_all, entries, IsGood, run_entries}
 
-
 -- what an outcome counts leaves the number of units that are due
 counted-due : (ended : Outcome) (t : Totals) (due : ℕ) → counted ended (record t { due = due }) ≡ record (counted ended t) { due = due }
 counted-due (outcome.Scanned found too_long) t due = refl
@@ -63,14 +62,14 @@ attempted-then jobs before mid now start then' totals one other = record {
   attempts = one.attempts ++ other.attempts;
   good = All-append (IsGood jobs) one.attempts other.attempts one.good other.good;
   recorded =
-    other.recorded ∙ ap (λ told. appended told (entries other.attempts)) one.recorded
-    ∙ appended-append before (entries one.attempts) (entries other.attempts)
-    ∙ ap (appended before) (sym (flat_map-append (λ (a : Attempt). run_entries a.unit a.begun) one.attempts other.attempts));
+      other.recorded ∙ ap (λ told. appended told (entries other.attempts)) one.recorded
+      ∙ appended-append before (entries one.attempts) (entries other.attempts)
+      ∙ ap (appended before) (sym (flat_map-append (λ (a : Attempt). run_entries a.unit a.begun) one.attempts other.attempts));
   counted_are =
-    other.counted_are
-    ∙ ap (λ (t : Totals). record (counted_all other.attempts t) { due = totals.due }) one.counted_are
-    ∙ ap (λ (t : Totals). record t { due = totals.due }) (counted_all-due other.attempts (counted_all one.attempts start) then'.due)
-    ∙ ap (λ (t : Totals). record t { due = totals.due }) (sym (counted_all-append one.attempts other.attempts start));
+      other.counted_are
+      ∙ ap (λ (t : Totals). record (counted_all other.attempts t) { due = totals.due }) one.counted_are
+      ∙ ap (λ (t : Totals). record t { due = totals.due }) (counted_all-due other.attempts (counted_all one.attempts start) then'.due)
+      ∙ ap (λ (t : Totals). record t { due = totals.due }) (sym (counted_all-append one.attempts other.attempts start));
 }
 
 -- a unit that was run, or could not begin

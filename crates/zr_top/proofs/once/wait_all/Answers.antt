@@ -12,8 +12,8 @@ loop-unit-preserved-then-is_err c =
       waiting = c.wait.ensures;
       left = All-rest (IsPruning jobs) c.in-Some.unit _ _ c.in-Some.ensures.steps.0 inv.left;
       counted = λ told.
-        let short = attempted-short jobs c.in-Some.unit told c.loop-unit.tally.totals of_file in
-        attempted-same jobs told told _ _ _ c.end.ensures (attempted-then jobs told told told _ _ _ (inv.counted told) short);
+          let short = attempted-short jobs c.in-Some.unit told c.loop-unit.tally.totals of_file in
+          attempted-same jobs told told _ _ _ c.end.ensures (attempted-then jobs told told told _ _ _ (inv.counted told) short);
     }
 
 pub loop-unit-preserved : goal.loop-unit-preserved
