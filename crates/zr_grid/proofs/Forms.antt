@@ -134,63 +134,63 @@ some_close = (41 ∷ [], [], refl, refl, tt)
 some_value : Value All (97 ∷ 108 ∷ 108 ∷ [])
 some_value = (97 ∷ 108 ∷ 108 ∷ [], [], refl, refl, tt)
 
-abbrev T3 : Keep × Unit {0} → List ℕ → Type 0
-T3 = Both Value Close
+abbrev FromValue : Keep × Unit {0} → List ℕ → Type 0
+FromValue = Both Value Close
 
-scans_t3 : Scans T3 (both_caps cap_keep plain) (pair (spaced kept_at) (spaced (word_scan (codes ")"))))
-scans_t3 = scans_both Value Close cap_keep plain (spaced kept_at) (spaced (word_scan (codes ")")))
+scans_from_value : Scans FromValue (both_caps cap_keep plain) (pair (spaced kept_at) (spaced (word_scan (codes ")"))))
+scans_from_value = scans_both Value Close cap_keep plain (spaced kept_at) (spaced (word_scan (codes ")")))
     (apart (or_blank is_of_kept) (is_byte 41) Value Close (byte_disjoint (or_blank is_of_kept) 41 refl) (within_spaced_or is_of_kept Kept within_kept) (starts_one 41))
     tt (41 ∷ []) some_close scans_value (scans_one 41 refl refl)
 
-some_t3 : T3 (All, tt) (97 ∷ 108 ∷ 108 ∷ 41 ∷ [])
-some_t3 = (97 ∷ 108 ∷ 108 ∷ [], 41 ∷ [], refl, some_value, some_close)
+some_from_value : FromValue (All, tt) (97 ∷ 108 ∷ 108 ∷ 41 ∷ [])
+some_from_value = (97 ∷ 108 ∷ 108 ∷ [], 41 ∷ [], refl, some_value, some_close)
 
-starts_t3 : Starts is_of_kept T3
-starts_t3 = starts_first is_of_kept Value Close (never_spaced Kept never_kept) starts_value
+starts_from_value : Starts is_of_kept FromValue
+starts_from_value = starts_first is_of_kept Value Close (never_spaced Kept never_kept) starts_value
 
-abbrev T2 : Unit {0} × (Keep × Unit {0}) → List ℕ → Type 0
-T2 = Both Equal T3
+abbrev FromEqual : Unit {0} × (Keep × Unit {0}) → List ℕ → Type 0
+FromEqual = Both Equal FromValue
 
-scans_t2 : Scans T2 (both_caps plain (both_caps cap_keep plain)) (pair (spaced (word_scan (codes "="))) (pair (spaced kept_at) (spaced (word_scan (codes ")")))))
-scans_t2 = scans_both Equal T3 plain (both_caps cap_keep plain) (spaced (word_scan (codes "="))) (pair (spaced kept_at) (spaced (word_scan (codes ")"))))
-    (apart (or_blank (is_byte 61)) is_of_kept Equal T3
+scans_from_equal : Scans FromEqual (both_caps plain (both_caps cap_keep plain)) (pair (spaced (word_scan (codes "="))) (pair (spaced kept_at) (spaced (word_scan (codes ")")))))
+scans_from_equal = scans_both Equal FromValue plain (both_caps cap_keep plain) (spaced (word_scan (codes "="))) (pair (spaced kept_at) (spaced (word_scan (codes ")"))))
+    (apart (or_blank (is_byte 61)) is_of_kept Equal FromValue
     (disjoint_swap is_of_kept (or_blank (is_byte 61)) (disjoint_or is_of_kept (is_byte 61) is_blank (byte_disjoint is_of_kept 61 refl) (disjoint_swap is_blank is_of_kept (blank_disjoint is_of_kept refl refl))))
-    (within_spaced_or (is_byte 61) (WordOf (codes "=")) (within_one 61)) starts_t3)
-    (All, tt) (97 ∷ 108 ∷ 108 ∷ 41 ∷ []) some_t3 (scans_one 61 refl refl) scans_t3
+    (within_spaced_or (is_byte 61) (WordOf (codes "=")) (within_one 61)) starts_from_value)
+    (All, tt) (97 ∷ 108 ∷ 108 ∷ 41 ∷ []) some_from_value (scans_one 61 refl refl) scans_from_value
 
-some_t2 : T2 (tt, (All, tt)) (61 ∷ 97 ∷ 108 ∷ 108 ∷ 41 ∷ [])
-some_t2 = (61 ∷ [], 97 ∷ 108 ∷ 108 ∷ 41 ∷ [], refl, (61 ∷ [], [], refl, refl, tt), some_t3)
+some_from_equal : FromEqual (tt, (All, tt)) (61 ∷ 97 ∷ 108 ∷ 108 ∷ 41 ∷ [])
+some_from_equal = (61 ∷ [], 97 ∷ 108 ∷ 108 ∷ 41 ∷ [], refl, (61 ∷ [], [], refl, refl, tt), some_from_value)
 
-starts_t2 : Starts (is_byte 61) T2
-starts_t2 = starts_first (is_byte 61) Equal T3 (never_spaced (WordOf (codes "=")) (never_word 61 [])) (starts_one 61)
+starts_from_equal : Starts (is_byte 61) FromEqual
+starts_from_equal = starts_first (is_byte 61) Equal FromValue (never_spaced (WordOf (codes "=")) (never_word 61 [])) (starts_one 61)
 
-abbrev T1 : Unit {0} × (Unit {0} × (Keep × Unit {0})) → List ℕ → Type 0
-T1 = Both Name T2
+abbrev FromName : Unit {0} × (Unit {0} × (Keep × Unit {0})) → List ℕ → Type 0
+FromName = Both Name FromEqual
 
-scans_t1 : Scans T1 (both_caps plain (both_caps plain (both_caps cap_keep plain))) (pair (spaced (word_scan (codes "keep"))) (pair (spaced (word_scan (codes "="))) (pair (spaced kept_at) (spaced (word_scan (codes ")"))))))
-scans_t1 = scans_both Name T2 plain (both_caps plain (both_caps cap_keep plain)) (spaced (word_scan (codes "keep"))) (pair (spaced (word_scan (codes "="))) (pair (spaced kept_at) (spaced (word_scan (codes ")")))))
-    (apart (or_blank is_of_name) (is_byte 61) Name T2 (byte_disjoint (or_blank is_of_name) 61 refl) (within_spaced_or is_of_name (WordOf (codes "keep")) within_name_word) starts_t2)
-    (tt, (All, tt)) (61 ∷ 97 ∷ 108 ∷ 108 ∷ 41 ∷ []) some_t2 scans_name scans_t2
+scans_from_name : Scans FromName (both_caps plain (both_caps plain (both_caps cap_keep plain))) (pair (spaced (word_scan (codes "keep"))) (pair (spaced (word_scan (codes "="))) (pair (spaced kept_at) (spaced (word_scan (codes ")"))))))
+scans_from_name = scans_both Name FromEqual plain (both_caps plain (both_caps cap_keep plain)) (spaced (word_scan (codes "keep"))) (pair (spaced (word_scan (codes "="))) (pair (spaced kept_at) (spaced (word_scan (codes ")")))))
+    (apart (or_blank is_of_name) (is_byte 61) Name FromEqual (byte_disjoint (or_blank is_of_name) 61 refl) (within_spaced_or is_of_name (WordOf (codes "keep")) within_name_word) starts_from_equal)
+    (tt, (All, tt)) (61 ∷ 97 ∷ 108 ∷ 108 ∷ 41 ∷ []) some_from_equal scans_name scans_from_equal
 
-some_t1 : T1 (tt, (tt, (All, tt))) (107 ∷ 101 ∷ 101 ∷ 112 ∷ 61 ∷ 97 ∷ 108 ∷ 108 ∷ 41 ∷ [])
-some_t1 = (107 ∷ 101 ∷ 101 ∷ 112 ∷ [], 61 ∷ 97 ∷ 108 ∷ 108 ∷ 41 ∷ [], refl, (107 ∷ 101 ∷ 101 ∷ 112 ∷ [], [], refl, refl, tt), some_t2)
+some_from_name : FromName (tt, (tt, (All, tt))) (107 ∷ 101 ∷ 101 ∷ 112 ∷ 61 ∷ 97 ∷ 108 ∷ 108 ∷ 41 ∷ [])
+some_from_name = (107 ∷ 101 ∷ 101 ∷ 112 ∷ [], 61 ∷ 97 ∷ 108 ∷ 108 ∷ 41 ∷ [], refl, (107 ∷ 101 ∷ 101 ∷ 112 ∷ [], [], refl, refl, tt), some_from_equal)
 
 never_name : NeverEmpty Name
 never_name = never_spaced (WordOf (codes "keep")) (never_word 107 (101 ∷ 101 ∷ 112 ∷ []))
 
-starts_t1 : Starts (is_byte 107) T1
-starts_t1 = starts_first (is_byte 107) Name T2 never_name (starts_spaced (is_byte 107) (WordOf (codes "keep")) (never_word 107 (101 ∷ 101 ∷ 112 ∷ [])) (starts_word (is_byte 107) 107 (101 ∷ 101 ∷ 112 ∷ []) refl))
+starts_from_name : Starts (is_byte 107) FromName
+starts_from_name = starts_first (is_byte 107) Name FromEqual never_name (starts_spaced (is_byte 107) (WordOf (codes "keep")) (never_word 107 (101 ∷ 101 ∷ 112 ∷ [])) (starts_word (is_byte 107) 107 (101 ∷ 101 ∷ 112 ∷ []) refl))
 
-abbrev T0 : Unit {0} × (Unit {0} × (Unit {0} × (Keep × Unit {0}))) → List ℕ → Type 0
-T0 = Both Gap T1
+abbrev InnerParts : Unit {0} × (Unit {0} × (Unit {0} × (Keep × Unit {0}))) → List ℕ → Type 0
+InnerParts = Both Gap FromName
 
-abbrev t0_at : List ℕ → Result ((Unit {0} × (Unit {0} × (Unit {0} × (KeepForm × Unit {0})))) × List ℕ) ℕ
-t0_at = pair skip_at (pair (spaced (word_scan (codes "keep"))) (pair (spaced (word_scan (codes "="))) (pair (spaced kept_at) (spaced (word_scan (codes ")"))))))
+abbrev inner_parts_at : List ℕ → Result ((Unit {0} × (Unit {0} × (Unit {0} × (KeepForm × Unit {0})))) × List ℕ) ℕ
+inner_parts_at = pair skip_at (pair (spaced (word_scan (codes "keep"))) (pair (spaced (word_scan (codes "="))) (pair (spaced kept_at) (spaced (word_scan (codes ")"))))))
 
-scans_t0 : Scans T0 (both_caps plain (both_caps plain (both_caps plain (both_caps cap_keep plain)))) t0_at
-scans_t0 = scans_both Gap T1 plain (both_caps plain (both_caps plain (both_caps cap_keep plain))) skip_at (pair (spaced (word_scan (codes "keep"))) (pair (spaced (word_scan (codes "="))) (pair (spaced kept_at) (spaced (word_scan (codes ")"))))))
-    (apart is_blank (is_byte 107) Gap T1 (blank_disjoint (is_byte 107) refl refl) within_blanks starts_t1)
-    (tt, (tt, (All, tt))) (107 ∷ 101 ∷ 101 ∷ 112 ∷ 61 ∷ 97 ∷ 108 ∷ 108 ∷ 41 ∷ []) some_t1 scans_blanks scans_t1
+scans_inner_parts : Scans InnerParts (both_caps plain (both_caps plain (both_caps plain (both_caps cap_keep plain)))) inner_parts_at
+scans_inner_parts = scans_both Gap FromName plain (both_caps plain (both_caps plain (both_caps cap_keep plain))) skip_at (pair (spaced (word_scan (codes "keep"))) (pair (spaced (word_scan (codes "="))) (pair (spaced kept_at) (spaced (word_scan (codes ")"))))))
+    (apart is_blank (is_byte 107) Gap FromName (blank_disjoint (is_byte 107) refl refl) within_blanks starts_from_name)
+    (tt, (tt, (All, tt))) (107 ∷ 101 ∷ 101 ∷ 112 ∷ 61 ∷ 97 ∷ 108 ∷ 108 ∷ 41 ∷ []) some_from_name scans_blanks scans_from_name
 
 abbrev Inner : Keep → List ℕ → Type 0
 Inner keep = Blanks ⨾ Spaced (Word (codes "keep")) ⨾ Spaced (Word (codes "=")) ⨾ Spaced (Kept keep) ⨾ Spaced (Word (codes ")"))
@@ -198,13 +198,13 @@ Inner keep = Blanks ⨾ Spaced (Word (codes "keep")) ⨾ Spaced (Word (codes "="
 abbrev inner_done : Result ((Unit {0} × (Unit {0} × (Unit {0} × (KeepForm × Unit {0})))) × List ℕ) ℕ → Result (KeepForm × List ℕ) ℕ
 inner_done scan = scan >>= λ x. keep_done (x.0.1.1.1.0, x.1)
 
-brackets_shape : (text : List ℕ) → brackets_at text ≡ inner_done (t0_at text)
+brackets_shape : (text : List ℕ) → brackets_at text ≡ inner_done (inner_parts_at text)
 unfolding brackets_at
 brackets_shape text = simp bind_assoc
 
 scans_inner : Scans Inner cap_keep brackets_at
 scans_inner text = subst (Scanned Inner cap_keep text) (sym (brackets_shape text))
-    (scans_as T0 Inner (both_caps plain (both_caps plain (both_caps plain (both_caps cap_keep plain)))) cap_keep t0_at (λ v. v.1.1.1.0) (λ c. c.1.1.1.0) (λ v t l. l) (λ k t l. ((tt, (tt, (tt, (k, tt)))), l, refl)) (λ v t l. refl) scans_t0 text)
+    (scans_as InnerParts Inner (both_caps plain (both_caps plain (both_caps plain (both_caps cap_keep plain)))) cap_keep inner_parts_at (λ v. v.1.1.1.0) (λ c. c.1.1.1.0) (λ v t l. l) (λ k t l. ((tt, (tt, (tt, (k, tt)))), l, refl)) (λ v t l. refl) scans_inner_parts text)
 
 -- ---- brackets, or nothing
 
@@ -228,61 +228,61 @@ Count = SpacedOf Counted
 abbrev Times : Unit {0} → List ℕ → Type 0
 Times = WordOf (codes "x")
 
-abbrev F3 : ℕ × Keep → List ℕ → Type 0
-F3 = Both Span KeepPart
+abbrev FromSpan : ℕ × Keep → List ℕ → Type 0
+FromSpan = Both Span KeepPart
 
-scans_f3 : Scans F3 (both_caps capped cap_keep) (pair span_at keep_at)
-scans_f3 = scans_both Span KeepPart capped cap_keep span_at keep_at
+scans_from_span : Scans FromSpan (both_caps capped cap_keep) (pair span_at keep_at)
+scans_from_span = scans_both Span KeepPart capped cap_keep span_at keep_at
     (apart is_of_span (is_byte 40) Span KeepPart (byte_disjoint is_of_span 40 refl) within_span starts_keep)
     (Most 1) [] (inl (refl, refl)) scans_span scans_keep
 
-some_f3 : F3 (1, Most 1) (49 ∷ 115 ∷ [])
-some_f3 = (49 ∷ 115 ∷ [], [], refl, some_span, inl (refl, refl))
+some_from_span : FromSpan (1, Most 1) (49 ∷ 115 ∷ [])
+some_from_span = (49 ∷ 115 ∷ [], [], refl, some_span, inl (refl, refl))
 
-starts_f3 : Starts is_of_span F3
-starts_f3 = starts_first is_of_span Span KeepPart never_span (starts_within is_of_span Span within_span)
+starts_from_span : Starts is_of_span FromSpan
+starts_from_span = starts_first is_of_span Span KeepPart never_span (starts_within is_of_span Span within_span)
 
-abbrev F2 : Unit {0} × (ℕ × Keep) → List ℕ → Type 0
-F2 = Both Times F3
+abbrev FromTimes : Unit {0} × (ℕ × Keep) → List ℕ → Type 0
+FromTimes = Both Times FromSpan
 
-scans_f2 : Scans F2 (both_caps plain (both_caps capped cap_keep)) (pair (word_scan (codes "x")) (pair span_at keep_at))
-scans_f2 = scans_both Times F3 plain (both_caps capped cap_keep) (word_scan (codes "x")) (pair span_at keep_at)
-    (apart (is_byte 120) is_of_span Times F3 (disjoint_swap is_of_span (is_byte 120) (byte_disjoint is_of_span 120 refl)) (within_one 120) starts_f3)
-    (1, Most 1) (49 ∷ 115 ∷ []) some_f3 (scans_word (codes "x")) scans_f3
+scans_from_times : Scans FromTimes (both_caps plain (both_caps capped cap_keep)) (pair (word_scan (codes "x")) (pair span_at keep_at))
+scans_from_times = scans_both Times FromSpan plain (both_caps capped cap_keep) (word_scan (codes "x")) (pair span_at keep_at)
+    (apart (is_byte 120) is_of_span Times FromSpan (disjoint_swap is_of_span (is_byte 120) (byte_disjoint is_of_span 120 refl)) (within_one 120) starts_from_span)
+    (1, Most 1) (49 ∷ 115 ∷ []) some_from_span (scans_word (codes "x")) scans_from_span
 
-some_f2 : F2 (tt, (1, Most 1)) (120 ∷ 49 ∷ 115 ∷ [])
-some_f2 = (120 ∷ [], 49 ∷ 115 ∷ [], refl, refl, some_f3)
+some_from_times : FromTimes (tt, (1, Most 1)) (120 ∷ 49 ∷ 115 ∷ [])
+some_from_times = (120 ∷ [], 49 ∷ 115 ∷ [], refl, refl, some_from_span)
 
-starts_f2 : Starts (is_byte 120) F2
-starts_f2 = starts_first (is_byte 120) Times F3 (never_word 120 []) (starts_word (is_byte 120) 120 [] refl)
+starts_from_times : Starts (is_byte 120) FromTimes
+starts_from_times = starts_first (is_byte 120) Times FromSpan (never_word 120 []) (starts_word (is_byte 120) 120 [] refl)
 
 scans_count : Scans Count capped (spaced counted_at)
 scans_count = scans_spaced Counted capped counted_at (apart_gap is_digit Counted refl refl within_counted) scans_counted
 
-abbrev F1 : ℕ × (Unit {0} × (ℕ × Keep)) → List ℕ → Type 0
-F1 = Both Count F2
+abbrev FromCount : ℕ × (Unit {0} × (ℕ × Keep)) → List ℕ → Type 0
+FromCount = Both Count FromTimes
 
-scans_f1 : Scans F1 (both_caps capped (both_caps plain (both_caps capped cap_keep))) (pair (spaced counted_at) (pair (word_scan (codes "x")) (pair span_at keep_at)))
-scans_f1 = scans_both Count F2 capped (both_caps plain (both_caps capped cap_keep)) (spaced counted_at) (pair (word_scan (codes "x")) (pair span_at keep_at))
-    (apart (or_blank is_digit) (is_byte 120) Count F2 (byte_disjoint (or_blank is_digit) 120 refl) (within_spaced_or is_digit Counted within_counted) starts_f2)
-    (tt, (1, Most 1)) (120 ∷ 49 ∷ 115 ∷ []) some_f2 scans_count scans_f2
+scans_from_count : Scans FromCount (both_caps capped (both_caps plain (both_caps capped cap_keep))) (pair (spaced counted_at) (pair (word_scan (codes "x")) (pair span_at keep_at)))
+scans_from_count = scans_both Count FromTimes capped (both_caps plain (both_caps capped cap_keep)) (spaced counted_at) (pair (word_scan (codes "x")) (pair span_at keep_at))
+    (apart (or_blank is_digit) (is_byte 120) Count FromTimes (byte_disjoint (or_blank is_digit) 120 refl) (within_spaced_or is_digit Counted within_counted) starts_from_times)
+    (tt, (1, Most 1)) (120 ∷ 49 ∷ 115 ∷ []) some_from_times scans_count scans_from_times
 
-some_f1 : F1 (1, (tt, (1, Most 1))) (49 ∷ 120 ∷ 49 ∷ 115 ∷ [])
-some_f1 = (49 ∷ [], 120 ∷ 49 ∷ 115 ∷ [], refl, (49 ∷ [], [], refl, ((omega arith, (refl, tt), refl), omega arith), tt), some_f2)
+some_from_count : FromCount (1, (tt, (1, Most 1))) (49 ∷ 120 ∷ 49 ∷ 115 ∷ [])
+some_from_count = (49 ∷ [], 120 ∷ 49 ∷ 115 ∷ [], refl, (49 ∷ [], [], refl, ((omega arith, (refl, tt), refl), omega arith), tt), some_from_times)
 
-starts_f1 : Starts is_digit F1
-starts_f1 = starts_first is_digit Count F2 (never_spaced Counted never_counted) (starts_spaced is_digit Counted never_counted starts_counted)
+starts_from_count : Starts is_digit FromCount
+starts_from_count = starts_first is_digit Count FromTimes (never_spaced Counted never_counted) (starts_spaced is_digit Counted never_counted starts_counted)
 
-abbrev F0 : Unit {0} × (ℕ × (Unit {0} × (ℕ × Keep))) → List ℕ → Type 0
-F0 = Both Gap F1
+abbrev IntervalParts : Unit {0} × (ℕ × (Unit {0} × (ℕ × Keep))) → List ℕ → Type 0
+IntervalParts = Both Gap FromCount
 
-abbrev f0_at : List ℕ → Result ((Unit {0} × (ℕ × (Unit {0} × (ℕ × KeepForm)))) × List ℕ) ℕ
-f0_at = pair skip_at (pair (spaced counted_at) (pair (word_scan (codes "x")) (pair span_at keep_at)))
+abbrev interval_parts_at : List ℕ → Result ((Unit {0} × (ℕ × (Unit {0} × (ℕ × KeepForm)))) × List ℕ) ℕ
+interval_parts_at = pair skip_at (pair (spaced counted_at) (pair (word_scan (codes "x")) (pair span_at keep_at)))
 
-scans_f0 : Scans F0 (both_caps plain (both_caps capped (both_caps plain (both_caps capped cap_keep)))) f0_at
-scans_f0 = scans_both Gap F1 plain (both_caps capped (both_caps plain (both_caps capped cap_keep))) skip_at (pair (spaced counted_at) (pair (word_scan (codes "x")) (pair span_at keep_at)))
-    (apart is_blank is_digit Gap F1 (blank_disjoint is_digit refl refl) within_blanks starts_f1)
-    (1, (tt, (1, Most 1))) (49 ∷ 120 ∷ 49 ∷ 115 ∷ []) some_f1 scans_blanks scans_f1
+scans_interval_parts : Scans IntervalParts (both_caps plain (both_caps capped (both_caps plain (both_caps capped cap_keep)))) interval_parts_at
+scans_interval_parts = scans_both Gap FromCount plain (both_caps capped (both_caps plain (both_caps capped cap_keep))) skip_at (pair (spaced counted_at) (pair (word_scan (codes "x")) (pair span_at keep_at)))
+    (apart is_blank is_digit Gap FromCount (blank_disjoint is_digit refl refl) within_blanks starts_from_count)
+    (1, (tt, (1, Most 1))) (49 ∷ 120 ∷ 49 ∷ 115 ∷ []) some_from_count scans_blanks scans_from_count
 
 abbrev interval_of : Unit {0} × (ℕ × (Unit {0} × (ℕ × Keep))) → Interval
 interval_of v = record { count = v.1.0; width = v.1.1.1.0; keep = v.1.1.1.1 }
@@ -293,27 +293,27 @@ form_of v = record { count = v.1.0; width = v.1.1.1.0; keep = v.1.1.1.1 }
 abbrev pub cap_interval : Interval → Form
 cap_interval interval = record { count = capped interval.count; width = capped interval.width; keep = cap_keep interval.keep }
 
-to_interval : (v : Unit {0} × (ℕ × (Unit {0} × (ℕ × Keep)))) (t : List ℕ) → F0 v t → IntervalText (interval_of v) t
+to_interval : (v : Unit {0} × (ℕ × (Unit {0} × (ℕ × Keep)))) (t : List ℕ) → IntervalParts v t → IntervalText (interval_of v) t
 unfolding IntervalText
 to_interval v t l = l
 
-from_interval : (i : Interval) (t : List ℕ) → IntervalText i t → (v : Unit {0} × (ℕ × (Unit {0} × (ℕ × Keep)))) × F0 v t × (i ≡ interval_of v)
+from_interval : (i : Interval) (t : List ℕ) → IntervalText i t → (v : Unit {0} × (ℕ × (Unit {0} × (ℕ × Keep)))) × IntervalParts v t × (i ≡ interval_of v)
 unfolding IntervalText
 from_interval i t l = ((tt, (i.count, (tt, (i.width, i.keep)))), l, refl)
 
 abbrev form_done : Result ((Unit {0} × (ℕ × (Unit {0} × (ℕ × KeepForm)))) × List ℕ) ℕ → Result (Form × List ℕ) ℕ
 form_done scan = scan >>= λ x. Ok (form_of x.0, x.1)
 
-form_shape : (text : List ℕ) → form_at text ≡ form_done (f0_at text)
+form_shape : (text : List ℕ) → form_at text ≡ form_done (interval_parts_at text)
 unfolding form_at
 form_shape text = simp bind_assoc
 
 pub scans_form : Scans IntervalText cap_interval form_at
 scans_form text = subst (Scanned IntervalText cap_interval text) (sym (form_shape text))
-    (scans_as F0 IntervalText (both_caps plain (both_caps capped (both_caps plain (both_caps capped cap_keep)))) cap_interval f0_at interval_of form_of to_interval from_interval (λ v t l. refl) scans_f0 text)
+    (scans_as IntervalParts IntervalText (both_caps plain (both_caps capped (both_caps plain (both_caps capped cap_keep)))) cap_interval interval_parts_at interval_of form_of to_interval from_interval (λ v t l. refl) scans_interval_parts text)
 
 pub some_interval : IntervalText (record { count = 1; width = 1; keep = Most 1 }) (49 ∷ 120 ∷ 49 ∷ 115 ∷ [])
-some_interval = to_interval (tt, (1, (tt, (1, Most 1)))) (49 ∷ 120 ∷ 49 ∷ 115 ∷ []) ([], 49 ∷ 120 ∷ 49 ∷ 115 ∷ [], refl, tt, some_f1)
+some_interval = to_interval (tt, (1, (tt, (1, Most 1)))) (49 ∷ 120 ∷ 49 ∷ 115 ∷ []) ([], 49 ∷ 120 ∷ 49 ∷ 115 ∷ [], refl, tt, some_from_count)
 
 -- ---- no interval has a bar
 
@@ -323,10 +323,10 @@ is_no_bar b = not (eqb b 124)
 no_bar : (p : ℕ → Bool) → p 124 ≡ false → (b : ℕ) → p b ≡ true → is_no_bar b ≡ true
 no_bar p fails b passes = not_from_false (eqb b 124) (false_from_ne_true (eqb b 124) (λ same. byte_disjoint p 124 fails b passes same))
 
-within_inner : Within is_no_bar T0
-within_inner = within_both is_no_bar Gap T1 (within_weaker is_blank is_no_bar Gap (no_bar is_blank refl) within_blanks)
-    (within_both is_no_bar Name T2 (within_weaker (or_blank is_of_name) is_no_bar Name (no_bar (or_blank is_of_name) refl) (within_spaced_or is_of_name (WordOf (codes "keep")) within_name_word))
-    (within_both is_no_bar Equal T3 (within_weaker (or_blank (is_byte 61)) is_no_bar Equal (no_bar (or_blank (is_byte 61)) refl) (within_spaced_or (is_byte 61) (WordOf (codes "=")) (within_one 61)))
+within_inner : Within is_no_bar InnerParts
+within_inner = within_both is_no_bar Gap FromName (within_weaker is_blank is_no_bar Gap (no_bar is_blank refl) within_blanks)
+    (within_both is_no_bar Name FromEqual (within_weaker (or_blank is_of_name) is_no_bar Name (no_bar (or_blank is_of_name) refl) (within_spaced_or is_of_name (WordOf (codes "keep")) within_name_word))
+    (within_both is_no_bar Equal FromValue (within_weaker (or_blank (is_byte 61)) is_no_bar Equal (no_bar (or_blank (is_byte 61)) refl) (within_spaced_or (is_byte 61) (WordOf (codes "=")) (within_one 61)))
     (within_both is_no_bar Value Close (within_weaker (or_blank is_of_kept) is_no_bar Value (no_bar (or_blank is_of_kept) refl) (within_spaced_or is_of_kept Kept within_kept))
     (within_weaker (or_blank (is_byte 41)) is_no_bar Close (no_bar (or_blank (is_byte 41)) refl) (within_spaced_or (is_byte 41) (WordOf (codes ")")) (within_one 41))))))
 
@@ -334,14 +334,14 @@ within_keep : Within is_no_bar KeepPart
 within_keep k t (inl p) = subst (Each is_no_bar) (sym p.0) tt
 within_keep k t (inr (g, h, e, ge, l)) = subst (Each is_no_bar) (sym e) (each_append is_no_bar g h (subst (Each is_no_bar) (sym ge) (refl, tt)) (within_inner (tt, (tt, (tt, (k, tt)))) h l))
 
-within_f0 : Within is_no_bar F0
-within_f0 = within_both is_no_bar Gap F1 (within_weaker is_blank is_no_bar Gap (no_bar is_blank refl) within_blanks)
-    (within_both is_no_bar Count F2 (within_weaker (or_blank is_digit) is_no_bar Count (no_bar (or_blank is_digit) refl) (within_spaced_or is_digit Counted within_counted))
-    (within_both is_no_bar Times F3 (within_weaker (is_byte 120) is_no_bar Times (no_bar (is_byte 120) refl) (within_one 120))
+within_interval_parts : Within is_no_bar IntervalParts
+within_interval_parts = within_both is_no_bar Gap FromCount (within_weaker is_blank is_no_bar Gap (no_bar is_blank refl) within_blanks)
+    (within_both is_no_bar Count FromTimes (within_weaker (or_blank is_digit) is_no_bar Count (no_bar (or_blank is_digit) refl) (within_spaced_or is_digit Counted within_counted))
+    (within_both is_no_bar Times FromSpan (within_weaker (is_byte 120) is_no_bar Times (no_bar (is_byte 120) refl) (within_one 120))
     (within_both is_no_bar Span KeepPart (within_weaker is_of_span is_no_bar Span (no_bar is_of_span refl) within_span) within_keep)))
 
 pub within_form : Within is_no_bar IntervalText
-within_form i t l = let v = from_interval i t l in within_f0 v.0 t v.1
+within_form i t l = let v = from_interval i t l in within_interval_parts v.0 t v.1
 
 pub bar_disjoint : (c : ℕ) → is_no_bar c ≡ true → is_byte 124 c ≡ true → ⊥
 bar_disjoint c passes bar = byte_disjoint is_no_bar 124 refl c passes bar
