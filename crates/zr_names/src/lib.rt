@@ -2,9 +2,11 @@
 #![tactic(auto)]
 
 pub use bytes::Bytes;
+pub use marks::{MarkKind, TagKind, cursor_name, is_tag, mark_of, tag_of, tentative_name};
 pub use moment::Moment;
 pub use names::{JobName, MarkName, Path, Prefix, SnapName, Tag, TokenText};
 pub use outcome::{NoMemory, Outcome};
+pub use policy::{Initial, Protection};
 pub use reading::{
     NameFault, read_job, read_mark, read_path, read_prefix, read_snap, read_tag, read_token_text,
 };
@@ -15,11 +17,16 @@ pub use unit::{Guid, Unit, Work};
 
 pub mod bytes;
 pub mod hex;
+pub mod laws;
+pub mod marks;
 pub mod moment;
 pub mod names;
 pub mod outcome;
+pub mod policy;
 pub mod reading;
 pub mod rows;
 pub mod same;
+#[cfg(test)]
+mod tests;
 pub mod totals;
 pub mod unit;
