@@ -3,4 +3,5 @@ pub mod Recording
 pub mod Ending
 pub mod Dooming
 pub mod Listing
+pub mod Honest
 pub mod Running

@@ -1,5 +1,5 @@
-use Rattle.std.proofs.Common.{◌≡◌, ◌∙◌, ℕ, List, [], ◌∷◌, ◌++◌, Option, Some, None, ap, append-nil, append_assoc, inl, inr, refl, subst, sym, length, ◌<◌}
-use Rattle.std.specs.List.{All, flat_map, fold}
+use Rattle.std.proofs.Common.{◌≡◌, ◌∙◌, ℕ, zero, suc, ◌+◌, ◌<◌, List, [], ◌∷◌, ◌++◌, Option, Some, None, ap, append-nil, append_assoc, arith, inl, inr, refl, subst, sym, length, map}
+use Rattle.std.specs.List.{All, AllZip, flat_map, fold, range_with_len}
 use Rattle.std.proofs.lemmas.List.Elements.{All-append, All-cons, All-head, All-nil}
 use Rattle.std.proofs.lemmas.Grind.{flat_map-append}
 use Rattle.zr_names.specs.declared.outcome.Outcome.{Outcome}
@@ -7,37 +7,28 @@ use Rattle.zr_names.specs.declared.outcome.Outcome.TheVariants as outcome
 use Rattle.zr_names.specs.declared.totals.Totals.{Totals}
 use Rattle.zr_names.specs.declared.unit.Unit.{Unit}
 use Rattle.zr_names.specs.declared.unit.Work.TheVariants as work
-use Rattle.zr_names.specs.Totals.{counted}
 use Rattle.zr_world.specs.declared.command.Entry.{Entry}
 use Rattle.zr_world.specs.Answering.{appended}
 use Rattle.zr_permit.specs.declared.job.JobSet.{JobSet}
 use Rattle.zr_permit.specs.Jobs.{IsOfFile}
 use Rattle.zr_permit.specs.Runs.{HasRun, Ran}
 use Rattle.zr_top.specs.Units.{IsPruning}
-use Rattle.zr_top.specs.Attempts.{Attempt, Attempted, counted_all, entries, IsGood, run_entries}
+use Rattle.zr_top.specs.Attempts.{Attempt, Attempted, entries, IsGood, no_totals, run_entries, tallied, tallied_all}
+use Rattle.zr_top.specs.Due.{Found, due_scans, first_scans, joined, RanDue, RunUpTo, scan_of, ScanRan, ScansRan}
 
--- what an outcome counts leaves the number of units that are due
-counted-due : (ended : Outcome) (t : Totals) (due : ℕ) → counted ended (record t { due = due }) ≡ record (counted ended t) { due = due }
-counted-due (outcome.Scanned found too_long) t due = refl
-counted-due (outcome.Parents made) t due = refl
-counted-due outcome.Taken t due = refl
-counted-due outcome.FreshEnough t due = refl
-counted-due outcome.UpToDate t due = refl
-counted-due (outcome.Replicated steps) t due = refl
-counted-due (outcome.Pruned destroyed busy) t due = refl
-counted-due (outcome.Conflict number) t due = refl
-counted-due (outcome.ChildFault at) t due = refl
-counted-due (outcome.Garbled at line) t due = refl
-counted-due outcome.NoMemory t due = refl
+abbrev unit_of : Attempt → Unit
+unit_of a = a.unit
 
-counted_all-due : (attempts : List Attempt) (t : Totals) (due : ℕ) → counted_all attempts (record t { due = due }) ≡ record (counted_all attempts t) { due = due }
-counted_all-due [] t due = refl
-counted_all-due (a ∷ as') t due =
-    ap (counted_all as') (counted-due a.ended t due) ∙ counted_all-due as' (counted a.ended t) due
+abbrev entries_in : Attempt → List Entry
+entries_in a = run_entries a.unit a.begun
 
-counted_all-append : (one other : List Attempt) (t : Totals) → counted_all (one ++ other) t ≡ counted_all other (counted_all one t)
-counted_all-append [] other t = refl
-counted_all-append (a ∷ one) other t = counted_all-append one other (counted a.ended t)
+units-append : (one other : List Attempt) → map unit_of (one ++ other) ≡ map unit_of one ++ map unit_of other
+units-append [] other = refl
+units-append (a ∷ one) other = ap (λ us. a.unit ∷ us) (units-append one other)
+
+tallied-append : (one other : List Attempt) (t : Totals) → tallied_all (one ++ other) t ≡ tallied_all other (tallied_all one t)
+tallied-append [] other t = refl
+tallied-append (a ∷ one) other t = tallied-append one other (tallied a.ended t)
 
 appended-append : (before : Option (List Entry)) (one other : List Entry) → appended (appended before one) other ≡ appended before (one ++ other)
 appended-append None one other = refl
@@ -47,53 +38,89 @@ appended-nil : (before : Option (List Entry)) → appended before [] ≡ before
 appended-nil None = refl
 appended-nil (Some told) = ap Some (append-nil told)
 
--- nothing was run, and only the number of units that are due changed
-pub attempted-none : (jobs : JobSet) (told : Option (List Entry)) (start totals : Totals) → totals ≡ record start { due = totals.due } → Attempted jobs told told start totals
-attempted-none jobs told start totals same = record {
+-- the records of some attempts and then of others
+recorded-then : (before mid now : Option (List Entry)) (one other : List Attempt) → mid ≡ appended before (entries one) → now ≡ appended mid (entries other) → now ≡ appended before (entries (one ++ other))
+recorded-then before mid now one other first second =
+    second ∙ ap (λ told. appended told (entries other)) first
+    ∙ appended-append before (entries one) (entries other)
+    ∙ ap (appended before) (sym (flat_map-append entries_in one other))
+
+totals-then : (start then' totals : Totals) (one other : List Attempt) → then' ≡ tallied_all one start → totals ≡ tallied_all other then' → totals ≡ tallied_all (one ++ other) start
+totals-then start then' totals one other first second =
+    second ∙ ap (tallied_all other) first ∙ sym (tallied-append one other start)
+
+-- no unit was due
+pub attempted-none : (jobs : JobSet) (told : Option (List Entry)) (start : Totals) → Attempted jobs [] told told start start
+attempted-none jobs told start = record {
   attempts = [];
+  units_are = refl;
   good = All-nil (IsGood jobs);
   recorded = sym (appended-nil told);
-  counted_are = same;
+  totals_are = refl;
 }
 
--- one unit after the other
-pub attempted-then : (jobs : JobSet) (before mid now : Option (List Entry)) (start then' totals : Totals) → Attempted jobs before mid start then' → Attempted jobs mid now then' totals → Attempted jobs before now start totals
-attempted-then jobs before mid now start then' totals one other = record {
+-- some units after others
+pub attempted-then : (jobs : JobSet) (due more : List Unit) (before mid now : Option (List Entry)) (start then' totals : Totals) → Attempted jobs due before mid start then' → Attempted jobs more mid now then' totals → Attempted jobs (due ++ more) before now start totals
+attempted-then jobs due more before mid now start then' totals one other = record {
   attempts = one.attempts ++ other.attempts;
+  units_are = units-append one.attempts other.attempts ∙ ap (λ us. us ++ map unit_of other.attempts) one.units_are ∙ ap (λ us. due ++ us) other.units_are;
   good = All-append (IsGood jobs) one.attempts other.attempts one.good other.good;
-  recorded =
-      other.recorded ∙ ap (λ told. appended told (entries other.attempts)) one.recorded
-      ∙ appended-append before (entries one.attempts) (entries other.attempts)
-      ∙ ap (appended before) (sym (flat_map-append (λ (a : Attempt). run_entries a.unit a.begun) one.attempts other.attempts));
-  counted_are =
-      other.counted_are
-      ∙ ap (λ (t : Totals). record (counted_all other.attempts t) { due = totals.due }) one.counted_are
-      ∙ ap (λ (t : Totals). record t { due = totals.due }) (counted_all-due other.attempts (counted_all one.attempts start) then'.due)
-      ∙ ap (λ (t : Totals). record t { due = totals.due }) (sym (counted_all-append one.attempts other.attempts start));
+  recorded = recorded-then before mid now one.attempts other.attempts one.recorded other.recorded;
+  totals_are = totals-then start then' totals one.attempts other.attempts one.totals_are other.totals_are;
+}
+
+one-recorded : (before now : Option (List Entry)) (attempt : Attempt) → now ≡ appended before (entries_in attempt) → now ≡ appended before (entries (attempt ∷ []))
+one-recorded before now attempt recorded = recorded ∙ ap (appended before) (sym (append-nil (entries_in attempt)))
+
+one-attempted : (jobs : JobSet) (before now : Option (List Entry)) (start : Totals) (attempt : Attempt) → IsGood jobs attempt → now ≡ appended before (entries_in attempt) → Attempted jobs (attempt.unit ∷ []) before now start (tallied attempt.ended start)
+one-attempted jobs before now start attempt good recorded = record {
+  attempts = attempt ∷ [];
+  units_are = refl;
+  good = All-cons (IsGood jobs) attempt [] good (All-nil (IsGood jobs));
+  recorded = one-recorded before now attempt recorded;
+  totals_are = refl;
 }
 
 -- a unit that was run, or could not begin
-pub attempted-run : (jobs : JobSet) (unit : Unit) (run : ℕ) (before now : Option (List Entry)) (start : Totals) (ended : Outcome) → IsOfFile jobs unit → Ran jobs unit run before now ended → Attempted jobs before now start (counted ended start)
+pub attempted-run : (jobs : JobSet) (unit : Unit) (run : ℕ) (before now : Option (List Entry)) (start : Totals) (ended : Outcome) → IsOfFile jobs unit → Ran jobs unit run before now ended → Attempted jobs (unit ∷ []) before now start (tallied ended start)
 attempted-run jobs unit run before now start ended of_file (inl ran) =
     let attempt : Attempt = record { unit = unit; begun = Some (run, ran.turns); ended = ended } in
-    record {
-      attempts = attempt ∷ [];
-      good = All-cons (IsGood jobs) attempt [] (record { of_file = of_file; ends_well = (ran.legal, ran.result) }) (All-nil (IsGood jobs));
-      recorded = ran.recorded ∙ ap (appended before) (sym (append-nil (run_entries unit (Some (run, ran.turns)))));
-      counted_are = refl;
-    }
+    one-attempted jobs before now start attempt (record { of_file = of_file; ends_well = (ran.legal, ran.result) }) ran.recorded
 attempted-run jobs unit run before now start ended of_file (inr none) =
     let attempt : Attempt = record { unit = unit; begun = None; ended = ended } in
+    one-attempted jobs before now start attempt (record { of_file = of_file; ends_well = none.0 }) (none.1 ∙ sym (appended-nil before))
+
+-- no unit of some was run yet
+pub run-none : (jobs : JobSet) (all : List Unit) (told : Option (List Entry)) (start : Totals) → RunUpTo jobs all all told told start start
+run-none jobs all told start = record {
+  run = [];
+  parts = refl;
+  ran = attempted-none jobs told start;
+}
+
+-- one unit more of some was run
+pub run-more : (jobs : JobSet) (all left rest : List Unit) (unit : Unit) (run : ℕ) (before mid now : Option (List Entry)) (start then' totals : Totals) (ended : Outcome) → RunUpTo jobs all left before mid start then' → left ≡ unit ∷ rest → IsOfFile jobs unit → Ran jobs unit run mid now ended → totals ≡ tallied ended then' → RunUpTo jobs all rest before now start totals
+run-more jobs all left rest unit run before mid now start then' totals ended up_to is of_file ran counted =
+    let at : Totals → Type 0 = λ t. Attempted jobs (up_to.run ++ unit ∷ []) before now start t in
     record {
-      attempts = attempt ∷ [];
-      good = All-cons (IsGood jobs) attempt [] (record { of_file = of_file; ends_well = none.0 }) (All-nil (IsGood jobs));
-      recorded = none.1 ∙ sym (appended-nil before);
-      counted_are = refl;
+      run = up_to.run ++ unit ∷ [];
+      parts = append_assoc up_to.run (unit ∷ []) rest ∙ ap (λ us. up_to.run ++ us) (sym is) ∙ up_to.parts;
+      ran = subst at (sym counted) (attempted-then jobs up_to.run (unit ∷ []) before mid now start then' _ up_to.ran (attempted-run jobs unit run mid now then' ended of_file ran));
     }
 
--- a unit for which there was no memory
-pub attempted-short : (jobs : JobSet) (unit : Unit) (told : Option (List Entry)) (start : Totals) → IsOfFile jobs unit → Attempted jobs told told start (counted outcome.NoMemory start)
-attempted-short jobs unit told start of_file = attempted-run jobs unit 0 told told start outcome.NoMemory of_file (inr (refl, refl))
+-- all units of some were run
+pub run-all : (jobs : JobSet) (all left : List Unit) (before now : Option (List Entry)) (start totals : Totals) → RunUpTo jobs all left before now start totals → left ≡ [] → Attempted jobs all before now start totals
+run-all jobs all left before now start totals up_to none =
+    let at : List Unit → Type 0 = λ us. Attempted jobs us before now start totals in
+    subst at (sym (append-nil up_to.run) ∙ ap (λ us. up_to.run ++ us) (sym none) ∙ up_to.parts) up_to.ran
+
+-- the units of one scan more were run
+pub run-joined : (jobs : JobSet) (all left rest : List (List Unit)) (units : List Unit) (before mid now : Option (List Entry)) (start then' totals : Totals) → RunUpTo jobs (joined all) (joined left) before mid start then' → left ≡ units ∷ rest → Attempted jobs units mid now then' totals → RunUpTo jobs (joined all) (joined rest) before now start totals
+run-joined jobs all left rest units before mid now start then' totals up_to is ran = record {
+  run = up_to.run ++ units;
+  parts = append_assoc up_to.run units (joined rest) ∙ ap (λ us. up_to.run ++ joined us) (sym is) ∙ up_to.parts;
+  ran = attempted-then jobs up_to.run units before mid now start then' totals up_to.ran ran;
+}
 
 -- the first of some units
 pub first-of : (jobs : JobSet) (unit : Unit) (rest all : List Unit) → all ≡ unit ∷ rest → All (IsPruning jobs) all → IsOfFile jobs unit
@@ -101,21 +128,87 @@ first-of jobs unit rest all is each =
     let pruning : List Unit → Type 0 = All (IsPruning jobs) in
     (All-head (IsPruning jobs) unit rest (subst pruning is each)).of_file
 
--- the same, with the totals under another name
-pub attempted-same : (jobs : JobSet) (before now : Option (List Entry)) (start totals same : Totals) → same ≡ totals → Attempted jobs before now start totals → Attempted jobs before now start same
-attempted-same jobs before now start totals same is attempted =
-    let at : Totals → Type 0 = λ t. Attempted jobs before now start t in
-    subst at (sym is) attempted
-
 -- a scan is a unit of the job file
-pub scan-of-file : (jobs : JobSet) (job moment : ℕ) → job < length jobs.jobs → IsOfFile jobs (record { job = job; moment = moment; work = work.Scan })
+pub scan-of-file : (jobs : JobSet) (job moment : ℕ) → job < length jobs.jobs → IsOfFile jobs (scan_of moment job)
 scan-of-file jobs job moment inside = record {
   in_file = inside;
   work_is = tt;
 }
 
--- the same, from totals under another name
-pub attempted-from : (jobs : JobSet) (before now : Option (List Entry)) (start same totals : Totals) → start ≡ same → Attempted jobs before now start totals → Attempted jobs before now same totals
-attempted-from jobs before now start same totals is attempted =
-    let at : Totals → Type 0 = λ t. Attempted jobs before now t totals in
-    subst at is attempted
+one-more : (from count : ℕ) → range_with_len from (count + 1) ≡ range_with_len from count ++ (from + count) ∷ []
+one-more from zero = let same : from ≡ from + 0 = omega arith in ap (λ n. n ∷ []) same
+one-more from (suc count) =
+    let longer : suc count + 1 ≡ suc (count + 1) = omega arith in
+    let next : (from + 1) + count ≡ from + suc count = omega arith in
+    ap (range_with_len from) longer ∙ ap (λ ns. from ∷ ns) (one-more (from + 1) count) ∙ ap (λ n. from ∷ range_with_len (from + 1) count ++ n ∷ []) next
+
+map-last : (moment : ℕ) (numbers : List ℕ) (number : ℕ) → map (scan_of moment) (numbers ++ number ∷ []) ≡ map (scan_of moment) numbers ++ scan_of moment number ∷ []
+map-last moment [] number = refl
+map-last moment (n ∷ numbers) number = ap (λ us. scan_of moment n ∷ us) (map-last moment numbers number)
+
+-- the scans of one job more
+scans-more : (moment count : ℕ) → first_scans moment (count + 1) ≡ first_scans moment count ++ scan_of moment count ∷ []
+scans-more moment count =
+    let last : 0 + count ≡ count = omega arith in
+    ap (map (scan_of moment)) (one-more 0 count) ∙ map-last moment (range_with_len 0 count) (0 + count)
+    ∙ ap (λ n. first_scans moment count ++ scan_of moment n ∷ []) last
+
+zip-more : (jobs : JobSet) (attempts : List Attempt) (found : List (List Unit)) (attempt : Attempt) (units : List Unit) → AllZip (Found jobs) attempts found → Found jobs attempt units → AllZip (Found jobs) (attempts ++ attempt ∷ []) (found ++ units ∷ [])
+zip-more jobs [] [] attempt units each finds = (finds, tt)
+zip-more jobs [] (us ∷ found) attempt units each finds = absurd each
+zip-more jobs (a ∷ attempts) [] attempt units each finds = absurd each
+zip-more jobs (a ∷ attempts) (us ∷ found) attempt units each finds =
+    (each.0, zip-more jobs attempts found attempt units each.1 finds)
+
+-- no scan was run yet
+pub scanned-none : (jobs : JobSet) (moment : ℕ) (told : Option (List Entry)) (start : Totals) → ScansRan jobs moment 0 told told start start []
+scanned-none jobs moment told start = record {
+  attempts = [];
+  units_are = refl;
+  good = All-nil (IsGood jobs);
+  recorded = sym (appended-nil told);
+  totals_are = refl;
+  found_are = tt;
+}
+
+-- the scan of one job more was run
+pub scanned-more : (jobs : JobSet) (moment count : ℕ) (before mid now : Option (List Entry)) (start then' totals : Totals) (ended : Outcome) (found : List (List Unit)) (units : List Unit) → count < length jobs.jobs → ScansRan jobs moment count before mid start then' found → ScanRan jobs (scan_of moment count) mid now ended units → totals ≡ tallied ended then' → ScansRan jobs moment (count + 1) before now start totals (found ++ units ∷ [])
+scanned-more jobs moment count before mid now start then' totals ended found units inside scans scan counted =
+    let attempt : Attempt = record { unit = scan_of moment count; begun = scan.begun; ended = ended } in
+    let good : IsGood jobs attempt = record { of_file = scan-of-file jobs count moment inside; ends_well = scan.ends_well } in
+    record {
+      attempts = scans.attempts ++ attempt ∷ [];
+      units_are = units-append scans.attempts (attempt ∷ []) ∙ ap (λ us. us ++ attempt.unit ∷ []) scans.units_are ∙ sym (scans-more moment count);
+      good = All-append (IsGood jobs) scans.attempts (attempt ∷ []) scans.good (All-cons (IsGood jobs) attempt [] good (All-nil (IsGood jobs)));
+      recorded = recorded-then before mid now scans.attempts (attempt ∷ []) scans.recorded (one-recorded mid now attempt scan.recorded);
+      totals_are = totals-then start then' totals scans.attempts (attempt ∷ []) scans.totals_are counted;
+      found_are = zip-more jobs scans.attempts found attempt units scans.found_are scan.finds;
+    }
+
+-- all that was due was attempted: the scans, and then the units that they found
+pub ran-due : (jobs : JobSet) (moment : ℕ) (before mid now : Option (List Entry)) (start then' totals : Totals) (found : List (List Unit)) → start ≡ no_totals → ScansRan jobs moment (length jobs.jobs) before mid start then' found → Attempted jobs (joined found) mid now then' totals → RanDue jobs (Some moment) before now totals
+ran-due jobs moment before mid now start then' totals found zeros scans others = record {
+  attempts = scans.attempts ++ others.attempts;
+  due = record {
+    scans = scans.attempts;
+    others = others.attempts;
+    parts = refl;
+    scans_are = scans.units_are;
+    found = found;
+    found_are = scans.found_are;
+    others_are = others.units_are;
+  };
+  good = All-append (IsGood jobs) scans.attempts others.attempts scans.good others.good;
+  recorded = recorded-then before mid now scans.attempts others.attempts scans.recorded others.recorded;
+  totals_are = totals-then start then' totals scans.attempts others.attempts scans.totals_are others.totals_are ∙ ap (tallied_all (scans.attempts ++ others.attempts)) zeros;
+}
+
+-- where the clock has ended nothing was due
+pub none-due : (jobs : JobSet) (told : Option (List Entry)) (totals : Totals) → totals ≡ no_totals → RanDue jobs None told told totals
+none-due jobs told totals zeros = record {
+  attempts = [];
+  due = refl;
+  good = All-nil (IsGood jobs);
+  recorded = sym (appended-nil told);
+  totals_are = zeros;
+}

@@ -1,15 +1,90 @@
-use Rattle.std.proofs.Common.{◌≡◌, ◌∙◌, ℕ, ◌⊎◌, List, [], ◌∷◌, Option, Some, inl, inr, refl, ap, lit<, subst, sym, true}
+use Rattle.std.proofs.Common.{◌≡◌, ◌∙◌, ℕ, ◌<◌, ◌⊎◌, Bool, true, false, List, [], ◌∷◌, ◌++◌, Option, Some, None, Ok, inl, inr, refl, ap, arith, lit<, subst, sym, length}
+use Rattle.std.specs.Io.KnownBytes.{append_known}
+use Rattle.std.specs.List.{Contains}
+use Rattle.std.specs.Prelude.{◌^◌, IfSome}
+use Rattle.std.proofs.lemmas.Bool.{ltb-true}
+use Rattle.zr_names.specs.declared.totals.Totals.{Totals}
+use Rattle.zr_exec.specs.Entries.{entries_of}
+use Rattle.zr_permit.specs.declared.job.JobSet.{JobSet}
+use Rattle.zr_jobfile.specs.SnapFile.{ReadsJobs}
 use Rattle.zr_top.specs.declared.status.Status.{Status}
 use Rattle.zr_top.specs.declared.status.Status.TheVariants as status
-use Rattle.zr_top.specs.Records.{IsFrontOf, RanBytes, RanFile, Told, Unrun}
-use Rattle.std.specs.List.{Contains}
-use Rattle.zr_top.specs.Status.{code_of, is_unrun, Printed}
+use Rattle.zr_top.specs.Clock.{Ticks}
+use Rattle.zr_top.specs.Due.{RanDue}
+use Rattle.zr_top.specs.Records.{FirstRan, IsFrontOf, IsNext, Known, RanBytes, RanFile, RanJobs, RanOnce, Told, Unrun, Wrote}
+use Rattle.zr_top.specs.Status.{code_of, is_unrun, Printed, status_of}
+use Rattle.zr_top.specs.Totals.{totals_text}
+use Rattle.zr_top.proofs.Ending.{first_of, printed-of-runs}
+
+-- the next moment of a clock
+pub next-of : (before after : Option (List ℕ)) (moment : Option ℕ) → Ticks before moment after → IsNext before moment
+next-of None None moment ticks = tt
+next-of None (Some left) moment ticks = absurd ticks
+next-of (Some []) None moment ticks = absurd ticks
+next-of (Some []) (Some left) moment ticks = ticks.0
+next-of (Some (next ∷ later)) None moment ticks = absurd ticks
+next-of (Some (next ∷ later)) (Some left) moment ticks = ticks.0
+
+-- `once` was called at a clock's next moment
+pub ran-once : (jobs : JobSet) (moments : Option (List ℕ)) (moment : Option ℕ) (before now : Told) (totals : Option Totals) → IsNext moments moment → IfSome totals (λ t. RanDue jobs moment (entries_of before) (entries_of now) t) → (totals ≡ None → now ≡ before) → RanOnce jobs moments before now totals
+ran-once jobs moments moment before now None next ran same = same refl
+ran-once jobs moments moment before now (Some totals) next ran same = record {
+  moment = moment;
+  next = next;
+  ran = ran;
+}
+
+-- all that was due was attempted with the first runner, and the totals were printed
+pub ran-jobs : (jobs : JobSet) (moments : Option (List ℕ)) (before now : List Told) (totals : Totals) (wrote_before wrote : Known) (given : Status) (line : List ℕ) → FirstRan jobs moments before now (Some totals) → line ≡ totals_text totals → Printed (status_of totals) given → Wrote given wrote_before wrote line → RanJobs jobs moments before now wrote_before wrote given
+ran-jobs jobs moments [] now totals wrote_before wrote given line ran is printed writes = absurd ran
+ran-jobs jobs moments (b ∷ others) [] totals wrote_before wrote given line ran is printed writes = absurd ran
+ran-jobs jobs moments (b ∷ others) (n ∷ left) totals wrote_before wrote given line ran is printed writes = record {
+  moment = ran.moment;
+  next = ran.next;
+  attempts = ran.ran.attempts;
+  due = ran.ran.due;
+  good = ran.ran.good;
+  recorded = ran.ran.recorded;
+  status = printed-of-runs ran.ran.attempts totals given ran.ran.totals_are printed;
+  printed = λ loud. writes loud ∙ ap (λ text. append_known wrote_before (text ++ 10 ∷ [])) (is ∙ ap totals_text ran.ran.totals_are);
+}
+
+silent : true ≡ false → ⊥
+silent e = cc
+
+-- the same, where there was no memory for the line
+pub ran-short : (jobs : JobSet) (moments : Option (List ℕ)) (before now : List Told) (totals : Totals) (wrote_before wrote : Known) → FirstRan jobs moments before now (Some totals) → RanJobs jobs moments before now wrote_before wrote status.OutOfMemory
+ran-short jobs moments before now totals wrote_before wrote ran =
+    ran-jobs jobs moments before now totals wrote_before wrote status.OutOfMemory (totals_text totals) ran refl (inr (inr refl)) (λ loud. absurd (silent loud))
+
+fault-of : (memory garbled fault conflict : Bool) → first_of memory garbled fault conflict ≡ status.ChildFault → fault ≡ true
+fault-of true garbled fault conflict e = cc
+fault-of false true fault conflict e = cc
+fault-of false false true conflict e = refl
+fault-of false false false true e = cc
+fault-of false false false false e = cc
+
+-- where a failed child gave the status, one was counted
+pub fault-counted : (totals : Totals) (given : Status) → Printed (status_of totals) given → given ≡ status.ChildFault → 0 < totals.faults
+fault-counted totals given (inl same) is = ltb-true 0 totals.faults (fault-of _ _ _ _ (sym same ∙ is))
+fault-counted totals given (inr (inl same)) is = absurd (unwritable (sym same ∙ is)) where
+  unwritable : status.Unwritable ≡ status.ChildFault → ⊥
+  unwritable e = cc
+fault-counted totals given (inr (inr same)) is = absurd (short (sym same ∙ is)) where
+  short : status.OutOfMemory ≡ status.ChildFault → ⊥
+  short e = cc
+
+-- the jobs of a file are few
+pub few-jobs : (bytes : List ℕ) (jobs : JobSet) → ReadsJobs bytes (Ok jobs) → length jobs.jobs < 2 ^ 32
+few-jobs bytes jobs reads =
+    let one : length jobs.jobs ≡ 1 = ap (λ (j : JobSet). length j.jobs) reads.2.jobs_are in
+    omega (arith, one)
 
 -- what was read of a file was run, or nothing was
-pub ran-file : (content : Option (List ℕ)) (read bytes : List ℕ) (before now : List Told) (given : Status) → bytes ≡ read → IsFrontOf content read → Unrun before now given ⊎ RanBytes bytes before now given → RanFile content before now given
-ran-file content read bytes before now given is front (inl unrun) = inl unrun
-ran-file content read bytes before now given is front (inr ran) =
-    inr (bytes, (λ whole there. is ∙ front whole there), ran)
+pub ran-file : (content : Option (List ℕ)) (read bytes : List ℕ) (moments : Option (List ℕ)) (before now : List Told) (wrote_before wrote : Known) (given : Status) → bytes ≡ read → IsFrontOf content read → Unrun before now given ⊎ RanBytes bytes moments before now wrote_before wrote given → RanFile content moments before now wrote_before wrote given
+ran-file content read bytes moments before now wrote_before wrote given is front (inl unrun) = inl unrun
+ran-file content read bytes moments before now wrote_before wrote given is front (inr ran) =
+    inr (record { bytes = bytes; front = λ whole there. is ∙ front whole there; ran = ran })
 
 printed-unrun : (given : Status) → Printed status.Unreadable given → is_unrun given ≡ true
 printed-unrun given (inl is) = ap is_unrun is
@@ -17,13 +92,13 @@ printed-unrun given (inr (inl is)) = ap is_unrun is
 printed-unrun given (inr (inr is)) = ap is_unrun is
 
 -- a file that could not be read was not run
-pub unread-unrun : (content : Option (List ℕ)) (told : List Told) (given : Status) → Printed status.Unreadable given → RanFile content told told given
-unread-unrun content told given printed = inl (record { same = refl; unrun = printed-unrun given printed })
+pub unread-unrun : (content : Option (List ℕ)) (moments : Option (List ℕ)) (told : List Told) (wrote_before wrote : Known) (given : Status) → Printed status.Unreadable given → RanFile content moments told told wrote_before wrote given
+unread-unrun content moments told wrote_before wrote given printed = inl (record { same = refl; unrun = printed-unrun given printed })
 
 -- the record of the named file's run, under its name in the words
-pub ran-named : (content : List ℕ → Option (List ℕ)) (named file : List ℕ) (before now : List Told) (given : Status) (code : ℕ) → named ≡ file → code ≡ code_of given → RanFile (content named) before now given → (x : Status) × (code ≡ code_of x) × RanFile (content file) before now x
-ran-named content named file before now given code same is ran =
-    let at : List ℕ → Type 0 = λ name. RanFile (content name) before now given in
+pub ran-named : (content : List ℕ → Option (List ℕ)) (named file : List ℕ) (moments : Option (List ℕ)) (before now : List Told) (wrote_before wrote : Known) (given : Status) (code : ℕ) → named ≡ file → code ≡ code_of given → RanFile (content named) moments before now wrote_before wrote given → (x : Status) × (code ≡ code_of x) × RanFile (content file) moments before now wrote_before wrote x
+ran-named content named file moments before now wrote_before wrote given code same is ran =
+    let at : List ℕ → Type 0 = λ name. RanFile (content name) moments before now wrote_before wrote given in
     (given, is, subst at same ran)
 
 -- the codes where the words are no command

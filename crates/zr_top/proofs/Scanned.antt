@@ -1,4 +1,4 @@
-use Rattle.std.proofs.Common.{◌≡◌, ◌∙◌, ℕ, ◌<◌, List, [], ◌∷◌, ◌++◌, ap, refl, subst, sym, length, get_or}
+use Rattle.std.proofs.Common.{◌≡◌, ◌∙◌, ℕ, ◌<◌, Option, Some, false, List, [], ◌∷◌, ◌++◌, ap, refl, subst, sym, length, get_or}
 use Rattle.std.specs.List.{All, flat_map, Contains}
 use Rattle.std.proofs.lemmas.List.Elements.{All-cons, All-nil, Contains-get_or}
 use Rattle.zr_names.specs.declared.outcome.Outcome.{Outcome}
@@ -10,9 +10,16 @@ use Rattle.zr_world.specs.declared.version.SetRow.{SetRow}
 use Rattle.zr_permit.specs.declared.job.JobSet.{JobSet}
 use Rattle.zr_permit.specs.declared.job.RuleSpec.{RuleSpec}
 use Rattle.zr_permit.specs.Jobs.{IsScanned, IsWorkOf, job_at, rules_of, units_at, UnitsOf}
-use Rattle.zr_permit.specs.Transcript.{Transcript}
+use Rattle.zr_world.specs.declared.command.Entry.{Entry}
+use Rattle.zr_world.specs.declared.command.Entry.TheVariants.{Begin}
+use Rattle.zr_world.specs.Answering.{appended}
+use Rattle.zr_permit.specs.Result.{is_out_of_memory, ResultOf}
+use Rattle.zr_permit.specs.Transcript.{Legal, Transcript}
+use Rattle.zr_permit.specs.Turned.{Records, RecordsUnit}
+use Rattle.zr_permit.proofs.Running.{ran-with}
 use Rattle.zr_prune.specs.Pruning.{IsPruneSource}
 use Rattle.zr_snap.specs.Scanning.{Gives}
+use Rattle.zr_top.specs.Due.{ScanRan}
 use Rattle.zr_top.specs.Units.{IsPruning}
 
 -- the unit prunes a source dataset, for a job at a moment
@@ -80,3 +87,23 @@ scan-pruning jobs jobs' unit unit' turns ended units same_jobs same_unit inside 
     let by_jobs : JobSet → Type 0 = λ j. Gives j unit' turns ended units in
     let by_unit : Unit → Type 0 = λ u. Gives jobs u turns ended units in
     gives-pruning jobs unit turns ended units inside (subst by_unit same_unit (subst by_jobs same_jobs gives))
+
+-- what a scan found, by the transcript of its record, which may be another only for want of memory
+finds : (jobs : JobSet) (unit : Unit) (turns kept : Transcript) (ended : Outcome) (units : List Unit) → Gives jobs unit turns ended units → (is_out_of_memory ended ≡ false → Gives jobs unit kept ended units) → Gives jobs unit kept ended units
+finds jobs unit turns kept outcome.NoMemory units gives same = gives
+finds jobs unit turns kept other units gives same = same refl
+
+-- a scan that began and ended was run, and found its units
+pub scan-ran : (jobs jobs' : JobSet) (unit unit' : Unit) (run : ℕ) (before begun now : Option (List Entry)) (turns : Transcript) (ended : Outcome) (units : List Unit) → jobs' ≡ jobs → unit' ≡ unit → begun ≡ appended before (Begin unit run ∷ []) → Legal jobs' unit' turns → ResultOf jobs' unit' turns ended → ((base : Option (List Entry)) → Records base begun [] → RecordsUnit base now jobs' unit' turns ended) → Gives jobs' unit' turns ended units → ScanRan jobs unit before now ended units
+scan-ran jobs jobs' unit unit' run before begun now turns ended units same_jobs same_unit begins legal result records gives' =
+    let by_jobs : JobSet → Type 0 = λ j. Gives j unit' turns ended units in
+    let by_unit : Unit → Type 0 = λ u. Gives jobs u turns ended units in
+    let gives = subst by_unit same_unit (subst by_jobs same_jobs gives') in
+    let Known : Transcript → Type 0 = λ ts. Gives jobs unit ts ended units in
+    let ran = ran-with jobs jobs' unit unit' run before begun now turns ended Known same_jobs same_unit begins legal result records gives in
+    record {
+      begun = Some (run, ran.0.turns);
+      ends_well = (ran.0.legal, ran.0.result);
+      recorded = ran.0.recorded;
+      finds = finds jobs unit turns ran.0.turns ended units gives ran.1;
+    }

@@ -1,9 +1,9 @@
-use Rattle.std.specs.Prelude.{◌≡◌, ◌⊎◌, ℕ, false, List, [], ◌∷◌, Option, Some, None, All, flat_map, fold}
+use Rattle.std.specs.Prelude.{◌≡◌, ℕ, false, List, [], ◌∷◌, Option, Some, None, All, flat_map, fold, map}
 use Rattle.zr_names.specs.declared.outcome.Outcome.{Outcome}
 use Rattle.zr_names.specs.declared.outcome.Outcome.TheVariants as outcome
 use Rattle.zr_names.specs.declared.totals.Totals.{Totals}
 use Rattle.zr_names.specs.declared.unit.Unit.{Unit}
-use Rattle.zr_names.specs.Totals.{counted}
+use Rattle.zr_names.specs.Totals.{counted, plus}
 use Rattle.zr_world.specs.declared.command.Entry.{Entry}
 use Rattle.zr_world.specs.declared.command.Entry.TheVariants.{Begin}
 use Rattle.zr_world.specs.Answering.{appended}
@@ -39,17 +39,22 @@ pub record IsGood (jobs : JobSet) (attempt : Attempt) : Type 0 where
   pub of_file : IsOfFile jobs attempt.unit
   pub ends_well : EndsWell jobs attempt.unit attempt.ended attempt.begun
 
--- the totals with the outcomes of some units counted
-abbrev pub counted_all : List Attempt → Totals → Totals
-counted_all attempts totals = fold (λ (t : Totals) (a : Attempt). counted a.ended t) totals attempts
+-- the totals with one due unit more, which ended so
+abbrev pub tallied : Outcome → Totals → Totals
+tallied ended t = record (counted ended t) { due = plus t.due 1 }
 
--- some units of the job file were run: the runner's record has their begun runs more, each legal and with
--- its result, and the totals count their outcomes
-pub record Attempted (jobs : JobSet) (before now : Option (List Entry)) (start totals : Totals) : Type 0 where
+-- the totals with some due units more
+abbrev pub tallied_all : List Attempt → Totals → Totals
+tallied_all attempts totals = fold (λ (t : Totals) (a : Attempt). tallied a.ended t) totals attempts
+
+-- these units were attempted, each once and in this order: the runner's record has their begun runs more,
+-- each legal and with its result, and the totals count them
+pub record Attempted (jobs : JobSet) (due : List Unit) (before now : Option (List Entry)) (start totals : Totals) : Type 0 where
   pub attempts : List Attempt
+  pub units_are : map (λ (a : Attempt). a.unit) attempts ≡ due
   pub good : All (IsGood jobs) attempts
   pub recorded : now ≡ appended before (entries attempts)
-  pub counted_are : totals ≡ record (counted_all attempts start) { due = totals.due }
+  pub totals_are : totals ≡ tallied_all attempts start
 
 -- the totals before the first unit
 abbrev pub no_totals : Totals
@@ -70,3 +75,7 @@ no_totals = record {
   garbled = 0;
   nomemory = 0;
 }
+
+-- the totals of some units that were due
+abbrev pub totals_of : List Attempt → Totals
+totals_of attempts = tallied_all attempts no_totals

@@ -1,5 +1,7 @@
 pub mod Attempts
 pub mod Clock
+pub mod Due
+pub mod Promises
 pub mod Records
 pub mod Status
 pub mod Stored

@@ -1,45 +1,88 @@
-use Rattle.std.specs.Prelude.{◌≡◌, ◌⊎◌, ◌+◌, ℕ, true, List, [], ◌∷◌, Option, Some, None, Ok, take}
+use Rattle.std.specs.Prelude.{⊤, ◌≡◌, ◌⊎◌, ◌+◌, ℕ, Bool, true, false, List, [], ◌∷◌, ◌++◌, Option, Some, None, Ok, Err, All, codes, take}
+use Rattle.std.specs.Io.KnownBytes.{append_known}
+use Rattle.zr_names.specs.declared.outcome.Outcome.{Outcome}
 use Rattle.zr_names.specs.declared.totals.Totals.{Totals}
+use Rattle.zr_names.specs.Count.{Rose}
+use Rattle.zr_world.specs.Answering.{appended}
 use Rattle.zr_exec.specs.declared.spawn.Line.{Line}
 use Rattle.zr_exec.specs.Entries.{entries_of}
 use Rattle.zr_permit.specs.declared.job.JobSet.{JobSet}
 use Rattle.zr_jobfile.specs.declared.TheConstants.{FILE_LIMIT}
+use Rattle.zr_jobfile.specs.declared.JobFault.{JobFault}
+use Rattle.zr_jobfile.specs.declared.JobFault.TheVariants as fault
 use Rattle.zr_jobfile.specs.SnapFile.{ReadsJobs}
 use Rattle.zr_top.specs.declared.status.Status.{Status}
 use Rattle.zr_top.specs.declared.status.Status.TheVariants as status
-use Rattle.zr_top.specs.Attempts.{Attempted, no_totals}
-use Rattle.zr_top.specs.Status.{is_unrun, Printed, status_of}
+use Rattle.zr_top.specs.Attempts.{Attempt, entries, IsGood, totals_of}
+use Rattle.zr_top.specs.Due.{IsDue, RanDue}
+use Rattle.zr_top.specs.Status.{is_unrun, Printed, status_of_runs}
+use Rattle.zr_top.specs.Totals.{totals_text}
 
 -- what a runner tells of its begun runs and its calls
 abbrev pub Told : Type 0
 Told = Option (List Line)
 
--- `once` was called with a runner, or for want of memory was not
-abbrev pub RanOnce : JobSet → Told → Told → Option Totals → Type 0
-RanOnce jobs before now None = now ≡ before
-RanOnce jobs before now (Some totals) = Attempted jobs (entries_of before) (entries_of now) no_totals totals
+-- the bytes that were written to the output, where it tells them
+abbrev pub Known : Type 0
+Known = Option (List ℕ)
+
+-- the next moment of a clock, where it tells its moments
+abbrev pub IsNext : Option (List ℕ) → Option ℕ → Type 0
+IsNext None moment = ⊤
+IsNext (Some []) moment = moment ≡ None
+IsNext (Some (next ∷ later)) moment = moment ≡ Some next
+
+-- all that was due at a clock's next moment was attempted with a runner
+pub record RanNext (jobs : JobSet) (moments : Option (List ℕ)) (before now : Told) (totals : Totals) : Type 0 where
+  pub moment : Option ℕ
+  pub next : IsNext moments moment
+  pub ran : RanDue jobs moment (entries_of before) (entries_of now) totals
+
+-- `once` was called with a runner, or for want of memory nothing was begun
+abbrev pub RanOnce : JobSet → Option (List ℕ) → Told → Told → Option Totals → Type 0
+RanOnce jobs moments before now None = now ≡ before
+RanOnce jobs moments before now (Some totals) = RanNext jobs moments before now totals
 
 -- the same, of the first of some runners
-abbrev pub FirstRan : JobSet → List Told → List Told → Option Totals → Type 0
-FirstRan jobs (before ∷ others) (now ∷ left) totals = RanOnce jobs before now totals
-FirstRan jobs before now totals = ⊥
+abbrev pub FirstNext : JobSet → Option (List ℕ) → List Told → List Told → Totals → Type 0
+FirstNext jobs moments (before ∷ others) (now ∷ left) totals = RanNext jobs moments before now totals
+FirstNext jobs moments before now totals = ⊥
 
--- the status after the totals were printed
-abbrev pub EndsAs : Option Totals → Status → Type 0
-EndsAs None given = given ≡ status.OutOfMemory
-EndsAs (Some totals) given = Printed (status_of totals) given
+abbrev pub FirstRan : JobSet → Option (List ℕ) → List Told → List Told → Option Totals → Type 0
+FirstRan jobs moments before now None = now ≡ before
+FirstRan jobs moments before now (Some totals) = FirstNext jobs moments before now totals
 
--- `once` was called for these jobs, and the status is that of its totals
-pub record RanJobs (jobs : JobSet) (before now : List Told) (given : Status) : Type 0 where
-  pub totals : Option Totals
-  pub first : FirstRan jobs before now totals
-  pub ends : EndsAs totals given
+-- the count of faults of the first of some runners rose
+abbrev pub FirstRose : List ℕ → List ℕ → Type 0
+FirstRose (before ∷ others) (now ∷ left) = Rose before now
+FirstRose before now = ⊥
 
--- the jobs of a file were run
-pub record RanBytes (bytes : List ℕ) (before now : List Told) (given : Status) : Type 0 where
-  pub jobs : JobSet
-  pub of_file : ReadsJobs bytes (Ok jobs)
-  pub ran : RanJobs jobs before now given
+-- the first runner's record has the begun runs of these attempts more
+abbrev pub FirstHas : List Told → List Told → List Attempt → Type 0
+FirstHas (before ∷ others) (now ∷ left) attempts =
+    entries_of now ≡ appended (entries_of before) (entries attempts)
+FirstHas before now attempts = ⊥
+
+-- the output or memory failed, so that the line may not be printed
+abbrev pub is_silent : Status → Bool
+is_silent status.Unwritable = true
+is_silent status.OutOfMemory = true
+is_silent other = false
+
+-- this line is all that was printed, unless the output or memory failed
+abbrev pub Wrote : Status → Known → Known → List ℕ → Type 0
+Wrote given before now line = is_silent given ≡ false → now ≡ append_known before (line ++ 10 ∷ [])
+
+-- all that is due for these jobs was attempted with the first runner, and the totals were printed
+pub record RanJobs (jobs : JobSet) (moments : Option (List ℕ)) (before now : List Told) (wrote_before wrote : Known) (given : Status) : Type 0 where
+  pub moment : Option ℕ
+  pub next : IsNext moments moment
+  pub attempts : List Attempt
+  pub due : IsDue jobs moment attempts
+  pub good : All (IsGood jobs) attempts
+  pub recorded : FirstHas before now attempts
+  pub status : Printed (status_of_runs attempts) given
+  pub printed : Wrote given wrote_before wrote (totals_text (totals_of attempts))
 
 -- nothing was run
 pub record Unrun (before now : List Told) (given : Status) : Type 0 where
@@ -50,7 +93,32 @@ pub record Unrun (before now : List Told) (given : Status) : Type 0 where
 abbrev pub IsFrontOf : Option (List ℕ) → List ℕ → Type 0
 IsFrontOf content bytes = (whole : List ℕ) → content ≡ Some whole → bytes ≡ take (FILE_LIMIT + 1) whole
 
+-- the jobs of these bytes were run
+pub record RanBytes (bytes : List ℕ) (moments : Option (List ℕ)) (before now : List Told) (wrote_before wrote : Known) (given : Status) : Type 0 where
+  pub jobs : JobSet
+  pub of_file : ReadsJobs bytes (Ok jobs)
+  pub ran : RanJobs jobs moments before now wrote_before wrote given
+
+-- the jobs of the file of this content were run
+pub record RanContent (content : Option (List ℕ)) (moments : Option (List ℕ)) (before now : List Told) (wrote_before wrote : Known) (given : Status) : Type 0 where
+  pub bytes : List ℕ
+  pub front : IsFrontOf content bytes
+  pub ran : RanBytes bytes moments before now wrote_before wrote given
+
 -- the jobs of the file of this content were run, or nothing was
-abbrev pub RanFile : Option (List ℕ) → List Told → List Told → Status → Type 0
-RanFile content before now given =
-    Unrun before now given ⊎ ((bytes : List ℕ) × IsFrontOf content bytes × RanBytes bytes before now given)
+abbrev pub RanFile : Option (List ℕ) → Option (List ℕ) → List Told → List Told → Known → Known → Status → Type 0
+RanFile content moments before now wrote_before wrote given =
+    Unrun before now given ⊎ RanContent content moments before now wrote_before wrote given
+
+-- the line of a job file's fault
+abbrev pub fault_line : JobFault → List ℕ
+fault_line fault.TooManyBytes = codes "job file: TooMany Bytes"
+fault_line fault.NotToml = codes "job file: NotToml"
+fault_line fault.NotBuilt = codes "job file: NotBuilt"
+fault_line fault.NoMemory = []
+
+-- the bytes of a job file are refused, and the line of their fault is all that was printed
+pub record RefusalPrinted (bytes : List ℕ) (wrote_before wrote : Known) : Type 0 where
+  pub fault : JobFault
+  pub by_fault : ReadsJobs bytes (Err fault)
+  pub printed : wrote ≡ append_known wrote_before (fault_line fault ++ 10 ∷ [])

@@ -1,10 +1,15 @@
 use Rattle.std.specs.Prelude.{◌≡◌, ◌≢◌, ◌⊎◌, ◌||◌, ◌+◌, ℕ, Bool, true, false, List, Err, if◌then◌else◌, nat_lt}
+use Rattle.std.specs.List.{list_any}
+use Rattle.zr_names.specs.declared.outcome.Outcome.{Outcome}
+use Rattle.zr_names.specs.declared.outcome.Outcome.TheVariants as outcome
 use Rattle.zr_names.specs.declared.totals.Totals.{Totals}
+use Rattle.zr_permit.specs.Result.{is_child_fault, is_out_of_memory}
 use Rattle.zr_jobfile.specs.declared.JobFault.{JobFault}
 use Rattle.zr_jobfile.specs.declared.JobFault.TheVariants.{NoMemory}
 use Rattle.zr_jobfile.specs.SnapFile.{ReadsJobs}
 use Rattle.zr_top.specs.declared.status.Status.{Status}
 use Rattle.zr_top.specs.declared.status.Status.TheVariants as status
+use Rattle.zr_top.specs.Attempts.{Attempt}
 
 -- the exit status
 abbrev pub code_of : Status → ℕ
@@ -28,6 +33,33 @@ status_of t =
     else (if nat_lt 0 t.faults
     then status.ChildFault
     else (if nat_lt 0 t.conflicts || nat_lt 0 t.toolong then status.Conflict else status.Clean)))
+
+-- a listing was garbled
+abbrev pub is_garbled : Outcome → Bool
+is_garbled (outcome.Garbled at line) = true
+is_garbled other = false
+
+-- replication can't go on by itself, or a scan met a path that is too long to work on
+abbrev pub is_conflict : Outcome → Bool
+is_conflict (outcome.Conflict number) = true
+is_conflict (outcome.Scanned found too_long) = nat_lt 0 too_long
+is_conflict other = false
+
+-- some unit ended so
+abbrev pub some_ended : (Outcome → Bool) → List Attempt → Bool
+some_ended so attempts = list_any (λ (a : Attempt). so a.ended) attempts
+
+-- the status of units by how they ended: the first of want of memory, a garbled listing, a failed child,
+-- and a conflict or a path too long
+abbrev pub status_of_runs : List Attempt → Status
+status_of_runs attempts =
+    if some_ended is_out_of_memory attempts
+    then status.OutOfMemory
+    else (if some_ended is_garbled attempts
+    then status.Garbled
+    else (if some_ended is_child_fault attempts
+    then status.ChildFault
+    else (if some_ended is_conflict attempts then status.Conflict else status.Clean)))
 
 -- a line was printed and this is the status, or the output or memory failed
 abbrev pub Printed : Status → Status → Type 0

@@ -1,12 +1,12 @@
-ghost use Rattle.std.specs.Prelude.{◌≡◌, ◌≤◌, All, List, Option};
+ghost use Rattle.std.specs.Prelude.{◌≡◌, ◌≤◌, ◌<◌, ◌^◌, All, IfErr, IfOk, IfSome, List, None, length};
 ghost use Rattle.zr_names.specs.Count.{Rose};
 ghost use Rattle.zr_top.specs.Attempts.{Attempted, no_totals};
+ghost use Rattle.zr_top.specs.Due.{FaultsRose, joined, RanDue, ScansRan};
 ghost use Rattle.zr_top.specs.Units.{IsPruning};
-ghost use Rattle.zr_world.specs.declared.command.Entry.{Entry};
 
 use crate::running::{run_prune, run_scan};
 use std::alloc::{AllocError, Global};
-use zr_names::{Moment, Outcome, Totals, Unit};
+use zr_names::{Moment, Outcome, Rows, Totals, Unit};
 use zr_permit::JobSet;
 use zr_world::Zfs;
 
@@ -19,8 +19,7 @@ struct Tally {
 
 impl Tally {
     ghost use Rattle.std.specs.Prelude.{◌≡◌};
-    ghost use Rattle.zr_names.specs.Totals.{counted};
-    ghost use Rattle.zr_top.specs.Attempts.{no_totals};
+    ghost use Rattle.zr_top.specs.Attempts.{no_totals, tallied};
 
     fn new() -> Tally
         ensures { result.totals ≡ no_totals }
@@ -31,94 +30,97 @@ impl Tally {
         }
     }
 
-    /// Counts units that are due.
-    fn due(&mut self, units: usize)
-        ensures { self.new.totals ≡ record self.old.totals { due = self.new.totals.due } }
-    {
-        self.totals.due = self.totals.due.saturating_add(units as u64);
-    }
-
-    /// Counts the outcome of a unit.
-    fn end(&mut self, outcome: &Outcome)
-        ensures { self.new.totals ≡ counted outcome.now self.old.totals }
+    /// Counts a unit that was due, and its outcome.
+    fn count(&mut self, outcome: &Outcome)
+        ensures { self.new.totals ≡ tallied outcome.now self.old.totals }
     {
         self.run = self.run.saturating_add(1);
+        self.totals.due = self.totals.due.saturating_add(1);
         self.totals.count(outcome);
     }
 }
 
-/// Lets one more unit wait.
-fn wait(waiting: &mut Vec<Unit>, jobs: &JobSet, unit: Unit) -> Result<(), AllocError>
-    requires unit { IsPruning jobs.now unit }
-    requires waiting { All (IsPruning jobs.now) waiting.old.items }
-    ensures { All (IsPruning jobs.now) waiting.new.items }
-{
-    waiting.push(unit)?;
-    Ok(())
-}
-
-/// Lets the units of a scan wait. One for which memory is wanting ends so.
-fn wait_all(waiting: &mut Vec<Unit>, jobs: &JobSet, units: Vec<Unit>, tally: &mut Tally)
-    requires units { All (IsPruning jobs.now) units.items }
-    requires waiting { All (IsPruning jobs.now) waiting.old.items }
-    ensures waiting { All (IsPruning jobs.now) waiting.new.items }
-    ensures counted { (told : Option (List Entry)) →
-        Attempted jobs.now told told tally.old.totals tally.new.totals }
-{
-    tally.due(units.len());
-    for unit in units {
-        if wait(waiting, jobs, unit).is_err() {
-            tally.end(&Outcome::NoMemory);
-        }
-    }
-}
-
-/// Runs the scan of each job in the order of the file, and gives the units that they found.
+/// Runs the scan of each job in the order of the file, and gives the units that each found. The room for
+/// them is made before the first scan.
 fn scan_all<Z: Zfs>(
     alloc: Global,
     jobs: &JobSet,
     moment: Moment,
     tally: &mut Tally,
     z: &mut Z,
-) -> Vec<Unit>
-    ensures units { All (IsPruning jobs.now) result.items }
-    ensures ran { Attempted jobs.now (Z.told z.old) (Z.told z.new) tally.old.totals tally.new.totals }
+) -> Result<Vec<Rows<Unit>>, AllocError>
+    requires { length jobs.now.jobs < 2 ^ 32 }
+    ensures units { IfOk result (λ found. All (All (IsPruning jobs.now)) found.items) }
+    ensures ran { IfOk result (λ found. ScansRan jobs.now moment (length jobs.now.jobs)
+        (Z.told z.old) (Z.told z.new) tally.old.totals tally.new.totals found.items) }
+    ensures unbegun { IfErr result (λ fault. z.new ≡ z.old) }
     ensures later { Z.faults z.old ≤ Z.faults z.new }
+    ensures rose { FaultsRose tally.old.totals tally.new.totals (Z.faults z.old) (Z.faults z.new) }
 {
-    let mut waiting = Vec::new(alloc);
-    let count = u32::try_from(jobs.jobs.len()).unwrap_or(u32::MAX);
-    for job in 0..count {
-        tally.due(1);
+    let mut found = Vec::with_capacity(alloc, jobs.jobs.len())?;
+    for job in 0..jobs.jobs.len() as u32 {
         let (outcome, units) = run_scan(alloc, jobs, job, moment, tally.run, z);
-        tally.end(&outcome);
-        wait_all(&mut waiting, jobs, units, tally);
+        tally.count(&outcome);
+        found.push_reserved(Rows::from_vec(units));
     }
-    waiting
+    Ok(found)
 }
 
-/// Runs the units in their order.
-fn run_all<Z: Zfs>(alloc: Global, jobs: &JobSet, units: Vec<Unit>, tally: &mut Tally, z: &mut Z)
+/// Runs some units in their order.
+fn run_units<Z: Zfs>(alloc: Global, jobs: &JobSet, units: Vec<Unit>, tally: &mut Tally, z: &mut Z)
     requires { All (IsPruning jobs.now) units.items }
-    ensures ran { Attempted jobs.now (Z.told z.old) (Z.told z.new) tally.old.totals tally.new.totals }
+    ensures ran { Attempted jobs.now units.items (Z.told z.old) (Z.told z.new)
+        tally.old.totals tally.new.totals }
     ensures later { Z.faults z.old ≤ Z.faults z.new }
+    ensures rose { FaultsRose tally.old.totals tally.new.totals (Z.faults z.old) (Z.faults z.new) }
 {
     for unit in units {
         let outcome = run_prune(alloc, jobs, unit, tally.run, z);
-        tally.end(&outcome);
+        tally.count(&outcome);
+    }
+}
+
+/// Runs the units of all scans in their order.
+fn run_all<Z: Zfs>(
+    alloc: Global,
+    jobs: &JobSet,
+    found: Vec<Rows<Unit>>,
+    tally: &mut Tally,
+    z: &mut Z,
+)
+    requires { All (All (IsPruning jobs.now)) found.items }
+    ensures ran { Attempted jobs.now (joined found.items) (Z.told z.old) (Z.told z.new)
+        tally.old.totals tally.new.totals }
+    ensures later { Z.faults z.old ≤ Z.faults z.new }
+    ensures rose { FaultsRose tally.old.totals tally.new.totals (Z.faults z.old) (Z.faults z.new) }
+{
+    for units in found {
+        run_units(alloc, jobs, units.into_vec(), tally, z);
     }
 }
 
 /// Runs all that is due at one moment: the scan of each job, and then the units that the scans found. No
-/// key of such a unit comes twice, so none is coalesced. With no moment nothing is due.
-pub fn once<Z: Zfs>(alloc: Global, jobs: &JobSet, moment: Option<Moment>, z: &mut Z) -> Totals
-    ensures ran { Attempted jobs.now (Z.told z.old) (Z.told z.new) no_totals result }
+/// key of such a unit comes twice, so none is coalesced. With no moment nothing is due. `None` where there
+/// is no memory to begin.
+pub fn once<Z: Zfs>(
+    alloc: Global,
+    jobs: &JobSet,
+    moment: Option<Moment>,
+    z: &mut Z,
+) -> Option<Totals>
+    requires few { length jobs.now.jobs < 2 ^ 32 }
+    ensures ran { IfSome result (λ totals. RanDue jobs.now moment (Z.told z.old) (Z.told z.new) totals) }
+    ensures unbegun { result ≡ None → z.new ≡ z.old }
     ensures later { Z.faults z.old ≤ Z.faults z.new }
+    ensures rose { IfSome result (λ totals. 0 < totals.faults → Rose (Z.faults z.old) (Z.faults z.new)) }
 {
     let mut tally = Tally::new();
     let Some(moment) = moment else {
-        return tally.totals;
+        return Some(tally.totals);
     };
-    let units = scan_all(alloc, jobs, moment, &mut tally, z);
-    run_all(alloc, jobs, units, &mut tally, z);
-    tally.totals
+    let Ok(found) = scan_all(alloc, jobs, moment, &mut tally, z) else {
+        return None;
+    };
+    run_all(alloc, jobs, found, &mut tally, z);
+    Some(tally.totals)
 }

@@ -3,6 +3,7 @@ ghost use Rattle.zr_names.specs.Count.{Rose};
 ghost use Rattle.zr_names.specs.declared.unit.Work.TheVariants as work;
 ghost use Rattle.zr_permit.specs.Result.{is_child_fault};
 ghost use Rattle.zr_permit.specs.Runs.{Ran};
+ghost use Rattle.zr_top.specs.Due.{scan_of, ScanRan};
 ghost use Rattle.zr_top.specs.Units.{IsPruning};
 
 use std::alloc::Global;
@@ -22,8 +23,8 @@ pub fn run_scan<Z: Zfs>(
     z: &mut Z,
 ) -> (Outcome, Vec<Unit>)
     requires { job < length jobs.now.jobs }
-    ensures ran { Ran jobs.now (record { job = job; moment = moment; work = work.Scan }) run
-        (Z.told z.old) (Z.told z.new) result.0 }
+    ensures ran { ScanRan jobs.now (scan_of moment job) (Z.told z.old) (Z.told z.new)
+        result.0 result.1.items }
     ensures units { All (IsPruning jobs.now) result.1.items }
     ensures later { Z.faults z.old ≤ Z.faults z.new }
     ensures fault_rose { is_child_fault result.0 ≡ true → Rose (Z.faults z.old) (Z.faults z.new) }

@@ -4,8 +4,8 @@ use std::process::Abort;
 use std::sync::Wait;
 use std::test::Fail;
 use std::thread::Threads;
-use zr_exec::{Line, MemSpawn, is_well_formed};
-use zr_names::{Guid, Moment, Rows, read_path, read_snap, read_tag};
+use zr_exec::{LISTING_LIMIT, Line, MemSpawn, RunExit, Spawn, is_well_formed};
+use zr_names::{Guid, Moment, NoMemory, Rows, Unit, read_path, read_snap, read_tag};
 use zr_pipe::MemSink;
 use zr_world::{Dataset, Extent, Planned, Pools, Version, VersionName};
 
@@ -45,18 +45,26 @@ fn version(alloc: Global, snap: &Snap) -> Result<Version, Fail> {
     })
 }
 
-fn pools(alloc: Global, path: &str, snaps: &[Snap]) -> Result<Pools, Fail> {
+fn dataset(alloc: Global, path: &str, snaps: &[Snap]) -> Result<Dataset, Fail> {
     let mut versions = Vec::new(alloc);
     for snap in snaps {
         versions.push(version(alloc, snap)?)?;
     }
-    let mut sets = Vec::new(alloc);
-    sets.push(Dataset {
+    Ok(Dataset {
         path: read_path(alloc, path.as_bytes())?,
         placeholder: false,
         partial: None,
         versions: Rows::from_vec(versions),
-    })?;
+    })
+}
+
+fn pools(alloc: Global, path: &str, snaps: &[Snap]) -> Result<Pools, Fail> {
+    let mut sets = Vec::new(alloc);
+    sets.push(dataset(alloc, path, snaps)?)?;
+    pools_of(sets)
+}
+
+fn pools_of(sets: Vec<Dataset>) -> Result<Pools, Fail> {
     Ok(Pools {
         sets: Rows::from_vec(sets),
         now: 1000,
@@ -278,5 +286,184 @@ fn a_failing_output_is_status_8(rt: HostRuntime) -> Result<(), Fail> {
         let ended = call(&rt, &["once", "f"], SNAP_LAST_N, pools, &[], &[put])?;
         assert_eq!(rt; ended.status, 8, "at put {put}");
     }
+    Ok(())
+}
+
+/// A runner whose children write what they are told to, one after the other, and end well or not. After
+/// the last of them each child fails.
+#[derive(Drop)]
+struct Scripted {
+    script: Vec<(bool, &'static [u8])>,
+    calls: usize,
+    faults: u64,
+}
+
+impl Scripted {
+    /// What the next child writes, and whether it ends well.
+    fn next(&self) -> (bool, &'static [u8]) {
+        match self.script.as_slice().get(self.calls) {
+            Some(reply) => *reply,
+            None => (false, &[]),
+        }
+    }
+}
+
+impl Spawn for Scripted {
+    ghost use Rattle.std.specs.Prelude.{None};
+
+    ghost faults = { λ s. s.faults };
+
+    ghost told = { λ s. None };
+
+    ghost pools = { λ s. None };
+
+    fn begin(&mut self, _unit: &Unit, _run: u64) -> Result<(), NoMemory> {
+        Ok(())
+    }
+
+    fn run(&mut self, _argv: &[String], out: &mut Vec<u8>) -> RunExit {
+        let (ends_well, text) = self.next();
+        self.calls = self.calls.saturating_add(1);
+        out.clear();
+        if text.len() > LISTING_LIMIT || out.extend_from_slice(text).is_err() {
+            return RunExit::NoMemory;
+        }
+        if ends_well {
+            return RunExit::Done;
+        }
+        self.faults = self.faults.saturating_add(1);
+        RunExit::Nonzero
+    }
+}
+
+/// Calls `once f` with children that write what they are told to: the status and what is printed.
+fn run_script<R: Abort + Threads + Wait + Sync + AllocGlobal>(
+    rt: &R,
+    script: &[(bool, &'static [u8])],
+) -> Result<(u8, String), Fail> {
+    let alloc = rt.alloc();
+    let words = vec![in alloc;
+        String::from_str(alloc, "once")?,
+        String::from_str(alloc, "f")?,
+    ]?;
+    let stored = vec![in alloc; StoredFile::new(alloc, "f", SNAP_LAST_N.as_bytes())?]?;
+    let mut files = MemFiles::new(alloc, stored, Vec::new(alloc));
+    let child = Scripted {
+        script: Vec::from_slice(alloc, script)?,
+        calls: 0,
+        faults: 0,
+    };
+    let mut children = vec![in alloc; child]?;
+    let moment = Moment::new(1_709_210_096_789).ok_or("a moment")?;
+    let clock = MemClock::new(vec![in alloc; moment]?);
+    let mut out = MemSink::new(alloc, Vec::new(alloc));
+    let words = words.as_slice();
+    let status = zrepl(rt, alloc, words, &mut files, &mut children, clock, &mut out);
+    let printed = String::from_str(alloc, str::from_utf8(out.written())?)?;
+    Ok((status, printed))
+}
+
+const SETS: (bool, &[u8]) = (true, b"tank\t-\t-\n");
+
+const SCAN_FAILED: &str =
+    "due=1 done=1 coalesced=0 taken=0 fresh=0 steps=0 uptodate=0 conflicts=0 destroyed=0 busy=0 placeholders=0 toolong=0 faults=1 garbled=0 nomemory=0\n";
+
+const SCAN_GARBLED: &str =
+    "due=1 done=1 coalesced=0 taken=0 fresh=0 steps=0 uptodate=0 conflicts=0 destroyed=0 busy=0 placeholders=0 toolong=0 faults=0 garbled=1 nomemory=0\n";
+
+const PRUNE_FAILED: &str =
+    "due=2 done=2 coalesced=0 taken=0 fresh=0 steps=0 uptodate=0 conflicts=0 destroyed=0 busy=0 placeholders=0 toolong=0 faults=1 garbled=0 nomemory=0\n";
+
+const PRUNE_GARBLED: &str =
+    "due=2 done=2 coalesced=0 taken=0 fresh=0 steps=0 uptodate=0 conflicts=0 destroyed=0 busy=0 placeholders=0 toolong=0 faults=0 garbled=1 nomemory=0\n";
+
+/// What the first two children do, the line that is printed and the status.
+type Faulty = ([(bool, &'static [u8]); 2], &'static str, u8);
+
+const FAULTY: [Faulty; 7] = [
+    // The first child fails, with a good listing or a bad one.
+    ([(false, b"tank\t-\t-\n"), SETS], SCAN_FAILED, 5),
+    ([(false, b"bad"), SETS], SCAN_FAILED, 5),
+    // The listing of the datasets is garbled: a line too many, and a last line that was cut.
+    ([(true, b"tank\t-\t-\nbad\n"), SETS], SCAN_GARBLED, 6),
+    ([(true, b"tank\t-\t-\ntan"), SETS], SCAN_GARBLED, 6),
+    // The second child fails.
+    ([SETS, (false, b"")], PRUNE_FAILED, 5),
+    // The listing of the versions is garbled: a column too few, and a last line that was cut.
+    ([SETS, (true, b"tank@a\t1\t1\t1\n")], PRUNE_GARBLED, 6),
+    (
+        [SETS, (true, b"tank@a\t1\t1\t1\t0\ntank@b\t2\t2\t2\t0")],
+        PRUNE_GARBLED,
+        6,
+    ),
+];
+
+#[test]
+fn faults_and_garbled_listings_end_their_unit(rt: HostRuntime) -> Result<(), Fail> {
+    for (script, line, status) in &FAULTY {
+        let (ended, printed) = run_script(&rt, script)?;
+        assert_eq!(rt; printed.as_str(), *line);
+        assert_eq!(rt; ended, *status);
+    }
+    Ok(())
+}
+
+/// The text of a path of so many bytes below `tank`.
+fn long_path(alloc: Global, len: usize) -> Result<String, Fail> {
+    let mut path = String::from_str(alloc, "tank/")?;
+    for _ in path.len()..len {
+        path.push('x')?;
+    }
+    Ok(path)
+}
+
+#[test]
+fn a_path_of_148_bytes_is_too_long(rt: HostRuntime) -> Result<(), Fail> {
+    let alloc = rt.alloc();
+    let cases = [
+        (147, "due=2 done=2", 1, "toolong=0", 0),
+        (148, "due=1 done=1", 0, "toolong=1", 4),
+    ];
+    for (len, units, destroyed, too_long, status) in cases {
+        let pools = pools(alloc, long_path(alloc, len)?.as_str(), &THREE)?;
+        let ended = call(&rt, &["once", "f"], SNAP_LAST_N, pools, &[], &[])?;
+        assert_eq!(rt; ended.status, status);
+        let line = format!(in alloc;
+            "{units} coalesced=0 taken=0 fresh=0 steps=0 uptodate=0 conflicts=0 destroyed={destroyed} busy=0 placeholders=0 {too_long} faults=0 garbled=0 nomemory=0\n"
+        )?;
+        assert_eq!(rt; ended.printed.as_str(), line.as_str());
+    }
+    Ok(())
+}
+
+#[test]
+fn a_filter_that_matches_nothing_gives_no_units(rt: HostRuntime) -> Result<(), Fail> {
+    let pools = pools(rt.alloc(), "tankx", &THREE)?;
+    let ended = call(&rt, &["once", "f"], SNAP_LAST_N, pools, &[], &[])?;
+    assert_eq!(rt;
+        ended.printed.as_str(),
+        "due=1 done=1 coalesced=0 taken=0 fresh=0 steps=0 uptodate=0 conflicts=0 destroyed=0 busy=0 placeholders=0 toolong=0 faults=0 garbled=0 nomemory=0\n"
+    );
+    assert_eq!(rt; ended.status, 0);
+    assert_eq!(rt; ended.children.as_str(), LIST_SETS);
+    Ok(())
+}
+
+#[test]
+fn forty_datasets_are_forty_one_units(rt: HostRuntime) -> Result<(), Fail> {
+    let alloc = rt.alloc();
+    let mut sets = Vec::new(alloc);
+    for tens in "0123".chars() {
+        for ones in "0123456789".chars() {
+            let path = format!(in alloc; "tank/{tens}{ones}")?;
+            sets.push(dataset(alloc, path.as_str(), &THREE)?)?;
+        }
+    }
+    let ended = call(&rt, &["once", "f"], SNAP_LAST_N, pools_of(sets)?, &[], &[])?;
+    assert_eq!(rt;
+        ended.printed.as_str(),
+        "due=41 done=41 coalesced=0 taken=0 fresh=0 steps=0 uptodate=0 conflicts=0 destroyed=40 busy=0 placeholders=0 toolong=0 faults=0 garbled=0 nomemory=0\n"
+    );
+    assert_eq!(rt; ended.status, 0);
     Ok(())
 }

@@ -1,10 +1,16 @@
-ghost use Rattle.std.specs.Prelude.{◌⊎◌, drop, ◌≡◌, ◌≢◌, ◌≤◌, ◌<◌, ◌+◌, ℕ, List, Some, None, Contains, [], ◌∷◌, map, take, true, vec_len};
+ghost use Rattle.std.specs.Prelude.{◌⊎◌, drop, ◌≡◌, ◌≢◌, ◌≤◌, ◌<◌, ◌+◌, ◌^◌, ℕ, IfSome, List, Ok, Some, None, Contains, [], ◌∷◌, ◌++◌, codes, length, map, take, true, vec_len};
 ghost use Rattle.std.specs.String.{string_bytes};
 ghost use Rattle.zr_jobfile.specs.declared.TheConstants.{FILE_LIMIT};
+ghost use Rattle.std.specs.Io.KnownBytes.{append_known};
 ghost use Rattle.zr_pipe.specs.Faults.{Rose};
-ghost use Rattle.zr_top.specs.Records.{FirstRan, RanBytes, RanFile, RanJobs, RanOnce, Unrun};
+ghost use Rattle.zr_top.specs.declared.report.TheConstants.{USAGE};
+ghost use Rattle.zr_jobfile.specs.SnapFile.{ReadsJobs};
+ghost use Rattle.zr_permit.specs.declared.job.JobSet.{JobSet as JobSetValue};
+ghost use Rattle.zr_permit.specs.Result.{is_child_fault};
+ghost use Rattle.zr_top.specs.Promises.{AllHonest, Completed, OfAnyRuns, OfRuns, SomeEnded};
+ghost use Rattle.zr_top.specs.Records.{FirstRan, FirstRose, RefusalPrinted, Wrote, RanBytes, RanFile, RanJobs, RanOnce, Unrun};
 ghost use Rattle.zr_top.specs.declared.status.Status.{Status};
-ghost use Rattle.zr_top.specs.Status.{code_of, is_of_run, IsRefused, Printed, RefusedOrUnread};
+ghost use Rattle.zr_top.specs.Status.{code_of, is_conflict, is_garbled, is_of_run, IsRefused, Printed, RefusedOrUnread};
 ghost use Rattle.zr_top.specs.Words.{file_of};
 
 use crate::clock::Clock;
@@ -30,7 +36,9 @@ fn once_with<R: Spawn, C: Clock + Drop>(
     child: R,
     mut clock: C,
 ) -> (Option<Totals>, R)
-    ensures { RanOnce jobs.now (R.told child) (R.told result.1) result.0 }
+    requires few { length jobs.now.jobs < 2 ^ 32 }
+    ensures ran { RanOnce jobs.now (C.moments clock) (R.told child) (R.told result.1) result.0 }
+    ensures rose { IfSome result.0 (λ totals. 0 < totals.faults → Rose (R.faults child) (R.faults result.1)) }
 {
     let Ok(program) = String::from_str(alloc, "zfs") else {
         return (None, child);
@@ -38,7 +46,7 @@ fn once_with<R: Spawn, C: Clock + Drop>(
     let moment = clock.tick();
     let mut zfs = CliZfs::new(child, program);
     let totals = once(alloc, jobs, moment, &mut zfs);
-    (Some(totals), zfs.spawn())
+    (totals, zfs.spawn())
 }
 
 /// Runs `once` with the first of the runners, which is put back in its place.
@@ -48,10 +56,13 @@ fn once_with_first<R: Spawn + Drop, C: Clock + Drop>(
     children: &mut Vec<R>,
     clock: C,
 ) -> Option<Totals>
-    requires { 0 < vec_len children.old }
+    requires some { 0 < vec_len children.old }
+    requires few { length jobs.now.jobs < 2 ^ 32 }
     ensures len { vec_len children.new ≡ vec_len children.old }
-    ensures first { FirstRan jobs.now (map (λ r. R.told r) children.old.items)
+    ensures first { FirstRan jobs.now (C.moments clock) (map (λ r. R.told r) children.old.items)
         (map (λ r. R.told r) children.new.items) result }
+    ensures rose { IfSome result (λ totals. 0 < totals.faults →
+        FirstRose (map (λ r. R.faults r) children.old.items) (map (λ r. R.faults r) children.new.items)) }
     ensures others { drop 1 children.new.items ≡ drop 1 children.old.items }
 {
     let child = children.remove(0);
@@ -70,11 +81,16 @@ fn run_jobs<R: Spawn + Drop, C: Clock + Drop, S: Sink>(
     clock: C,
     out: &mut S,
 ) -> Status
-    requires { 0 < vec_len children.old }
+    requires some { 0 < vec_len children.old }
+    requires few { length jobs.now.jobs < 2 ^ 32 }
     ensures len { vec_len children.new ≡ vec_len children.old }
     ensures of_run { is_of_run result ≡ true }
-    ensures ran { RanJobs jobs.now (map (λ r. R.told r) children.old.items)
-        (map (λ r. R.told r) children.new.items) result }
+    ensures ran { Unrun (map (λ r. R.told r) children.old.items)
+        (map (λ r. R.told r) children.new.items) result
+        ⊎ RanJobs jobs.now (C.moments clock) (map (λ r. R.told r) children.old.items)
+        (map (λ r. R.told r) children.new.items) (S.written out.old) (S.written out.new) result }
+    ensures failed { result ≡ Status.ChildFault →
+        FirstRose (map (λ r. R.faults r) children.old.items) (map (λ r. R.faults r) children.new.items) }
     ensures others { drop 1 children.new.items ≡ drop 1 children.old.items }
     ensures unwritable { result ≡ Status.Unwritable → Rose (S.faults out.old) (S.faults out.new) }
 {
@@ -99,12 +115,16 @@ fn run_file<R: Spawn + Drop, C: Clock + Drop, S: Sink>(
     ensures len { vec_len children.new ≡ vec_len children.old }
     ensures refused { IsRefused bytes.now → Printed Status.JobFile result }
     ensures refused_only { result ≡ Status.JobFile → IsRefused bytes.now }
+    ensures refusal_printed { result ≡ Status.JobFile →
+        RefusalPrinted bytes.now (S.written out.old) (S.written out.new) }
     ensures no_usage { result ≢ Status.Usage }
     ensures readable { result ≢ Status.Unreadable }
     ensures ran { Unrun (map (λ r. R.told r) children.old.items)
         (map (λ r. R.told r) children.new.items) result
-        ⊎ RanBytes bytes.now (map (λ r. R.told r) children.old.items)
-        (map (λ r. R.told r) children.new.items) result }
+        ⊎ RanBytes bytes.now (C.moments clock) (map (λ r. R.told r) children.old.items)
+        (map (λ r. R.told r) children.new.items) (S.written out.old) (S.written out.new) result }
+    ensures failed { result ≡ Status.ChildFault →
+        FirstRose (map (λ r. R.faults r) children.old.items) (map (λ r. R.faults r) children.new.items) }
     ensures others { drop 1 children.new.items ≡ drop 1 children.old.items }
     ensures unwritable { result ≡ Status.Unwritable → Rose (S.faults out.old) (S.faults out.new) }
 {
@@ -117,6 +137,7 @@ fn run_file<R: Spawn + Drop, C: Clock + Drop, S: Sink>(
 /// Prints that a file can't be read.
 fn unreadable<S: Sink>(alloc: Global, out: &mut S, file: &str) -> Status
     ensures printed { Printed Status.Unreadable result }
+    ensures wrote { Wrote result (S.written out.old) (S.written out.new) (codes "cannot read " ++ file.now) }
     ensures unwritable { result ≡ Status.Unwritable → Rose (S.faults out.old) (S.faults out.new) }
 {
     match format!(in alloc; "cannot read {file}") {
@@ -140,9 +161,17 @@ fn run_named<F: Files, R: Spawn + Drop, C: Clock + Drop, S: Sink>(
         IsRefused (take (FILE_LIMIT + 1) whole) → RefusedOrUnread result }
     ensures refused_only { result ≡ Status.JobFile → (whole : List ℕ) →
         F.content files.old file.now ≡ Some whole → IsRefused (take (FILE_LIMIT + 1) whole) }
+    ensures refusal_printed { result ≡ Status.JobFile → (whole : List ℕ) →
+        F.content files.old file.now ≡ Some whole →
+        RefusalPrinted (take (FILE_LIMIT + 1) whole) (S.written out.old) (S.written out.new) }
+    ensures unread_printed { result ≡ Status.Unreadable →
+        S.written out.new ≡ append_known (S.written out.old) (codes "cannot read " ++ file.now ++ 10 ∷ []) }
     ensures no_usage { result ≢ Status.Usage }
-    ensures ran { RanFile (F.content files.old file.now) (map (λ r. R.told r) children.old.items)
-        (map (λ r. R.told r) children.new.items) result }
+    ensures ran { RanFile (F.content files.old file.now) (C.moments clock)
+        (map (λ r. R.told r) children.old.items) (map (λ r. R.told r) children.new.items)
+        (S.written out.old) (S.written out.new) result }
+    ensures failed { result ≡ Status.ChildFault →
+        FirstRose (map (λ r. R.faults r) children.old.items) (map (λ r. R.faults r) children.new.items) }
     ensures others { drop 1 children.new.items ≡ drop 1 children.old.items }
     ensures unwritable { result ≡ Status.Unwritable → Rose (S.faults out.old) (S.faults out.new) }
     ensures unreadable { result ≡ Status.Unreadable →
@@ -194,10 +223,48 @@ where
     // The record: the first runner has that of legal runs of the file's units more, and the status is that
     // of their outcomes, where the output does not fail; the other runners are as they were.
     ensures ran { (file : List ℕ) → file_of (map string_bytes words.now) ≡ Some file →
-        (given : Status) × (result ≡ code_of given) × RanFile (F.content files.old file)
-        (map (λ r. R.told r) children.old.items) (map (λ r. R.told r) children.new.items) given }
+        (given : Status) × (result ≡ code_of given) × RanFile (F.content files.old file) (C.moments clock)
+        (map (λ r. R.told r) children.old.items) (map (λ r. R.told r) children.new.items)
+        (S.written out.old) (S.written out.new) given }
     ensures unrun { file_of (map string_bytes words.now) ≡ None → children.new.items ≡ children.old.items }
     ensures others { drop 1 children.new.items ≡ drop 1 children.old.items }
+
+    // Honest destruction: what is destroyed stood in a listing of its unit with no holds, kept by no rule.
+    ensures honest { (file : List ℕ) → file_of (map string_bytes words.now) ≡ Some file →
+        OfAnyRuns (F.content files.old file) (map (λ r. R.told r) children.old.items)
+        (map (λ r. R.told r) children.new.items) AllHonest }
+
+    // The causes of the statuses 4, 5 and 6: how a run ended; 5 also only where the count of the first
+    // runner's faults rose in this call.
+    ensures garbled { result ≡ 6 → (file : List ℕ) → file_of (map string_bytes words.now) ≡ Some file →
+        OfRuns (F.content files.old file) (map (λ r. R.told r) children.old.items)
+        (map (λ r. R.told r) children.new.items) (SomeEnded is_garbled) }
+    ensures failed { result ≡ 5 → (file : List ℕ) → file_of (map string_bytes words.now) ≡ Some file →
+        OfRuns (F.content files.old file) (map (λ r. R.told r) children.old.items)
+        (map (λ r. R.told r) children.new.items) (SomeEnded is_child_fault) }
+    ensures failed_rose { result ≡ 5 →
+        FirstRose (map (λ r. R.faults r) children.old.items) (map (λ r. R.faults r) children.new.items) }
+    ensures too_long { result ≡ 4 → (file : List ℕ) → file_of (map string_bytes words.now) ≡ Some file →
+        OfRuns (F.content files.old file) (map (λ r. R.told r) children.old.items)
+        (map (λ r. R.told r) children.new.items) (SomeEnded is_conflict) }
+
+    // Completeness: with an accepted file and no fault, all that was due was done, or memory was wanting.
+    ensures complete { (file whole : List ℕ) (jobs : JobSetValue) →
+        file_of (map string_bytes words.now) ≡ Some file → F.content files.old file ≡ Some whole →
+        ReadsJobs (take (FILE_LIMIT + 1) whole) (Ok jobs) →
+        ¬ Rose (F.faults files.old) (F.faults files.new) → ¬ Rose (S.faults out.old) (S.faults out.new) →
+        ¬ FirstRose (map (λ r. R.faults r) children.old.items) (map (λ r. R.faults r) children.new.items) →
+        (result ≡ 9) ⊎ OfRuns (F.content files.old file) (map (λ r. R.told r) children.old.items)
+        (map (λ r. R.told r) children.new.items) (Completed (C.moments clock) result) }
+
+    // The output: one line is all that is printed; that of the totals is part of `ran`.
+    ensures usage_printed { result ≡ 2 →
+        S.written out.new ≡ append_known (S.written out.old) (USAGE.now ++ 10 ∷ []) }
+    ensures refusal_printed { result ≡ 3 → (file whole : List ℕ) →
+        file_of (map string_bytes words.now) ≡ Some file → F.content files.old file ≡ Some whole →
+        RefusalPrinted (take (FILE_LIMIT + 1) whole) (S.written out.old) (S.written out.new) }
+    ensures unread_printed { result ≡ 7 → (file : List ℕ) → file_of (map string_bytes words.now) ≡ Some file →
+        S.written out.new ≡ append_known (S.written out.old) (codes "cannot read " ++ file ++ 10 ∷ []) }
 
     // The file and the output: 7 and 8 only where the count of their faults rose in this call.
     ensures unreadable { result ≡ 7 → Rose (F.faults files.old) (F.faults files.new) ×

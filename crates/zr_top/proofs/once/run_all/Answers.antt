@@ -1,24 +1,32 @@
-use Rattle.std.proofs.Common.{arith, refl, rules}
+use Rattle.std.proofs.Common.{arith, rules, subst, sym, List, ◌≡◌}
+use Rattle.std.specs.List.{All}
 use Rattle.std.proofs.lemmas.List.Elements.{All-rest}
+use Rattle.zr_names.specs.declared.unit.Unit.{Unit}
+use Rattle.zr_top.specs.Attempts.{Attempted}
 use Rattle.zr_top.specs.Units.{IsPruning}
-use Rattle.zr_top.proofs.Attempting.{attempted-none, attempted-run, attempted-same, attempted-then, first-of}
+use Rattle.zr_top.proofs.Attempting.{run-joined, run-none}
+use Rattle.zr_top.proofs.Rising.{rose-none, rose-then}
 use Rattle.zr_top.proofs.once.run_all.Goals as goal
 
-pub loop-unit-init : goal.loop-unit-init
-loop-unit-init g c = record {
+pub loop-units-init : goal.loop-units-init
+loop-units-init g c = record {
   left = search rules;
-  ran = attempted-none c.args.jobs.now _ _ _ refl;
+  ran = search (rules, run-none);
   later = omega arith;
+  rose = rose-none c.args.tally.now.totals _ _;
 }
 
-pub loop-unit-preserved : goal.loop-unit-preserved
-loop-unit-preserved g c =
-    let inv = c.loop-unit.invariant in
+pub loop-units-preserved : goal.loop-units-preserved
+loop-units-preserved g c =
+    let inv = c.loop-units.invariant in
     let jobs = c.args.jobs.now in
-    let of_file = first-of jobs c.in-Some.unit _ _ c.in-Some.ensures.steps.0 inv.left in
-    let run = attempted-run jobs c.in-Some.unit _ _ _ c.loop-unit.tally.totals _ of_file c.run_prune-outcome.ensures.ran in
+    let told = g.Z.Zfs.told in
+    let is = c.in-Some.ensures.steps.0 in
+    let ran = c.run_units.ensures in
+    let Ran : List Unit → Type 0 = λ units. Attempted jobs units (told c.loop-units.z) (told c.run_units.new.z) c.loop-units.tally.totals c.run_units.new.tally.totals in
     record {
-      left = All-rest (IsPruning jobs) c.in-Some.unit _ _ c.in-Some.ensures.steps.0 inv.left;
-      ran = attempted-same jobs _ _ _ _ _ c.end.ensures (attempted-then jobs _ _ _ _ _ _ inv.ran run);
-      later = omega (arith, inv.later, c.run_prune-outcome.ensures.later);
+      left = All-rest (All (IsPruning jobs)) c.in-Some.units _ _ is inv.left;
+      ran = run-joined jobs c.args.found.items _ _ c.in-Some.units _ _ _ _ _ _ inv.ran is (subst Ran c.into_vec.ensures ran.ran);
+      later = omega (arith, inv.later, ran.later);
+      rose = rose-then c.args.tally.now.totals c.loop-units.tally.totals c.run_units.new.tally.totals _ (g.Z.Zfs.faults c.loop-units.z) _ inv.later ran.later inv.rose ran.rose;
     }

@@ -1,18 +1,33 @@
-use Rattle.std.proofs.Common.{arith, rules, ◌<◌, length}
-use Rattle.zr_top.proofs.Attempting.{attempted-none, attempted-run, attempted-same, attempted-then, scan-of-file}
+use Rattle.std.proofs.Common.{◌≡◌, ◌∙◌, ap, arith, rules, subst, sym, ◌+◌, ◌<◌, List, [], ◌∷◌, ◌++◌, length}
+use Rattle.std.specs.List.{All}
+use Rattle.std.proofs.lemmas.List.Elements.{All-append, All-cons, All-nil}
+use Rattle.zr_names.specs.declared.unit.Unit.{Unit}
+use Rattle.zr_top.specs.Due.{ScansRan}
+use Rattle.zr_top.specs.Units.{IsPruning}
+use Rattle.zr_top.proofs.Attempting.{scanned-more}
+use Rattle.zr_top.proofs.Rising.{counted-rose, rose-then}
 use Rattle.zr_top.proofs.once.scan_all.Goals as goal
 
 pub loop-job-preserved : goal.loop-job-preserved
 loop-job-preserved g c =
     let inv = c.loop-job.invariant in
     let jobs = c.args.jobs.now in
+    let told = g.Z.Zfs.told in
+    let faults = g.Z.Zfs.faults in
     let inside : c.loop-job.job < length jobs.jobs = search rules in
-    let told = g.Z.Zfs.told c.loop-job.z in
-    let due = attempted-none jobs told c.loop-job.tally.totals c.due.new.self.totals c.due.ensures in
-    let run = attempted-run jobs _ _ _ _ c.due.new.self.totals _ (scan-of-file jobs c.loop-job.job c.args.moment inside) c.run_scan-outcome.ensures.ran in
-    let scanned = attempted-same jobs _ _ _ _ c.end.new.self.totals c.end.ensures run in
+    let scan = c.run_scan-outcome.ensures in
+    let units = c.run_scan-outcome.result.1.items in
+    let old = c.loop-job.found.items in
+    let now = c.push_reserved.new.self.items in
+    let found_is : now ≡ old ++ units ∷ [] = c.push_reserved.ensures.items ∙ ap (λ us. old ++ us ∷ []) c.from_vec.ensures in
+    let Prunes : List (List Unit) → Type 0 = All (All (IsPruning jobs)) in
+    let Ran : List (List Unit) → Type 0 = λ found. ScansRan jobs c.args.moment (c.loop-job.job + 1) (told c.args.z.now) (told c.run_scan-outcome.new.z) c.args.tally.now.totals c.count.new.self.totals found in
     record {
-      waiting = c.wait_all.ensures.waiting;
-      ran = attempted-then jobs _ _ _ _ _ _ inv.ran (attempted-then jobs _ _ _ _ _ _ due (attempted-then jobs _ _ _ _ _ _ scanned (c.wait_all.ensures.counted _)));
-      later = omega (arith, inv.later, c.run_scan-outcome.ensures.later);
+      len = search rules;
+      room = search rules;
+      found = subst Prunes (sym found_is) (All-append (All (IsPruning jobs)) old (units ∷ []) inv.found (All-cons (All (IsPruning jobs)) units [] scan.units (All-nil (All (IsPruning jobs)))));
+      ran = subst Ran (sym found_is) (scanned-more jobs c.args.moment c.loop-job.job _ _ _ _ _ _ _ old units inside inv.ran scan.ran c.count.ensures);
+      later = omega (arith, inv.later, scan.later);
+      rose =
+          rose-then c.args.tally.now.totals c.loop-job.tally.totals c.count.new.self.totals _ (faults c.loop-job.z) _ inv.later scan.later inv.rose (counted-rose c.run_scan-outcome.result.0 c.loop-job.tally.totals _ _ _ c.count.ensures scan.fault_rose);
     }

@@ -1,0 +1,136 @@
+use Rattle.std.proofs.Common.{◌≡◌, ◌∙◌, ◌==◌, ◌&&◌, ℕ, ◌<◌, ◌⊎◌, Bool, true, false, not, List, [], ◌∷◌, ◌++◌, Option, Some, None, ap, append-nil, append_assoc, arith, inl, inr, length, lit<, nat_eq, refl, subst, sym}
+use Rattle.std.specs.Bool.{if◌then◌else◌}
+use Rattle.std.specs.Cmp.Lexicographic.{pointwise}
+use Rattle.std.specs.List.{Contains}
+use Rattle.std.proofs.lemmas.Bool.Decides.{nat_tests}
+use Rattle.std.proofs.lemmas.List.Elements.{Contains-append_cases, Contains-append_right, Contains-push_cases}
+use Rattle.zr_names.specs.declared.unit.Unit.{Unit}
+use Rattle.zr_names.specs.declared.unit.Work.{Work}
+use Rattle.zr_names.specs.declared.unit.Work.TheVariants as work
+use Rattle.zr_world.specs.declared.command.Answer.{Answer}
+use Rattle.zr_world.specs.declared.command.Answer.TheVariants as answer
+use Rattle.zr_world.specs.declared.command.Cmd.{Cmd}
+use Rattle.zr_world.specs.declared.command.Cmd.TheVariants as cmd
+use Rattle.zr_world.specs.declared.command.Reply.TheVariants as reply
+use Rattle.zr_world.specs.declared.version.VersionName.{VersionName}
+use Rattle.zr_world.specs.declared.version.VersionName.TheVariants.{Snap, Mark}
+use Rattle.zr_world.specs.declared.version.VersionRow.{VersionRow}
+use Rattle.zr_permit.specs.declared.job.JobSet.{JobSet}
+use Rattle.zr_permit.specs.declared.job.RuleSpec.{RuleSpec}
+use Rattle.zr_permit.specs.Honest.{IsHonest, MayGo, WasListed}
+use Rattle.zr_permit.specs.Jobs.{job_at, rules_of}
+use Rattle.zr_permit.specs.Keep.{doomed, going, going_from, retained}
+use Rattle.zr_permit.specs.Transcript.{Allowed, doomed_in, Legal, LegalAfter, later_of, listed, Permits, rows_told, Transcript, Turn}
+
+no-element : {X : Type 0} (x : X) → Contains [] x → ⊥
+no-element x within = let inside = within.1 in omega arith
+
+and-both : (x y : Bool) → (x && y) ≡ true → (x ≡ true) × (y ≡ true)
+and-both true true e = (refl, refl)
+and-both true false e = cc
+and-both false y e = cc
+
+not-true : (b : Bool) → not b ≡ true → b ≡ false
+not-true true e = cc
+not-true false e = refl
+
+same-number : (x y : ℕ) → nat_eq x y ≡ true → x ≡ y
+same-number x y e = grind (arith, nat_tests)
+
+texts-same : (one other : List ℕ) → pointwise nat_eq one other ≡ true → one ≡ other
+texts-same [] [] e = refl
+texts-same [] (y ∷ ys) e = cc
+texts-same (x ∷ xs) [] e = cc
+texts-same (x ∷ xs) (y ∷ ys) e =
+    let both = and-both (nat_eq x y) (pointwise nat_eq xs ys) e in
+    let first = same-number x y both.0 in
+    let rest = texts-same xs ys both.1 in
+    cc
+
+-- the turn that lists some rows of a dataset
+abbrev lists : List ℕ → List VersionRow → Turn
+lists path rows = (cmd.Versions path, answer.Done (reply.Versions rows))
+
+listing-turn : (path : List ℕ) (turn : Turn) (rows : List VersionRow) → rows_told path turn.0 turn.1 ≡ Some rows → turn ≡ lists path rows
+listing-turn path (cmd.Versions other, answer.Done (reply.Versions told)) rows e = choose (pointwise nat_eq other path) refl e where
+  choose : (b : Bool) → pointwise nat_eq other path ≡ b → (if b then Some told else None) ≡ Some rows → lists other told ≡ lists path rows
+  choose true same e =
+      let paths : other ≡ path = texts-same other path same in
+      let both : told ≡ rows = cc in
+      ap (λ p. lists p told) paths ∙ ap (lists path) both
+  choose false same e = cc
+listing-turn path (command, given) rows e = cc
+
+-- the last listing of a dataset is a turn of the transcript
+listed-turn : (path : List ℕ) (turns : Transcript) (rows : List VersionRow) → listed path turns ≡ Some rows → Contains turns (lists path rows)
+listed-turn path [] rows e = cc
+listed-turn path (turn ∷ turns) rows e = choose (listed path turns) refl (listed-turn path turns rows) e where
+  choose : (later : Option (List VersionRow)) → listed path turns ≡ later → (listed path turns ≡ Some rows → Contains turns (lists path rows)) → later_of (rows_told path turn.0 turn.1) later ≡ Some rows → Contains (turn ∷ turns) (lists path rows)
+  choose None none in_rest e = (0, omega arith, listing-turn path turn rows e)
+  choose (Some told) some in_rest e = Contains-append_right (turn ∷ []) turns _ (in_rest (some ∙ e))
+
+-- a snapshot that one row gives up
+going-may : (rules : List RuleSpec) (rows earlier : List VersionRow) (row : VersionRow) (later : List VersionRow) (name : List ℕ) → 0 < length rules → rows ≡ earlier ++ row ∷ later → Contains (going rules rows row later row.name) name → MayGo rules rows name
+going-may rules rows earlier row later name some is within = choose row.name refl within where
+  pick : (snap : List ℕ) → row.name ≡ Snap snap → (b : Bool) → (row.refs == 0) && not (retained rules rows row later) ≡ b → Contains (if b then snap ∷ [] else []) name → MayGo rules rows name
+  pick snap named true goes within =
+      elim (Contains-push_cases [] snap name within) [
+        | inl none ↦ absurd (no-element name none)
+        | inr same ↦
+            record {
+              some_rule = some;
+              earlier = earlier;
+              row = row;
+              later = later;
+              listed = is;
+              named = named ∙ ap Snap same;
+              no_holds = same-number row.refs 0 (and-both (row.refs == 0) _ goes).0;
+              kept_by_none = not-true (retained rules rows row later) (and-both (row.refs == 0) _ goes).1;
+            }
+      ]
+  pick snap named false goes within = absurd (no-element name within)
+  choose : (named : VersionName) → row.name ≡ named → Contains (going rules rows row later named) name → MayGo rules rows name
+  choose (Mark mark) named within = absurd (no-element name within)
+  choose (Snap snap) named within = pick snap named ((row.refs == 0) && not (retained rules rows row later)) refl within
+
+from-may : (rules : List RuleSpec) (rows earlier left : List VersionRow) (name : List ℕ) → 0 < length rules → rows ≡ earlier ++ left → Contains (going_from rules rows left) name → MayGo rules rows name
+from-may rules rows earlier [] name some is within = absurd (no-element name within)
+from-may rules rows earlier (row ∷ later) name some is within =
+    elim (Contains-append_cases (going rules rows row later row.name) (going_from rules rows later) name within) [
+      | inl here ↦ going-may rules rows earlier row later name some is here
+      | inr there ↦ from-may rules rows (earlier ++ row ∷ []) later name some (is ∙ sym (append_assoc earlier (row ∷ []) later)) there
+    ]
+
+-- what a listing dooms may go
+pub doomed-may : (rules : List RuleSpec) (rows : List VersionRow) (name : List ℕ) → Contains (doomed rules rows) name → MayGo rules rows name
+doomed-may [] rows name within = absurd (no-element name within)
+doomed-may (rule ∷ rules) rows name within = from-may (rule ∷ rules) rows [] rows name (omega arith) refl within
+
+-- each turn of a legal transcript was allowed after those before it
+legal-at : (jobs : JobSet) (unit : Unit) (before past : Transcript) (turn : Turn) (later : Transcript) → LegalAfter jobs unit before (past ++ turn ∷ later) → Allowed jobs unit (before ++ past) turn.0
+legal-at jobs unit before [] turn later legal =
+    let allows : Transcript → Type 0 = λ ts. Allowed jobs unit ts turn.0 in
+    subst allows (sym (append-nil before)) legal.0
+legal-at jobs unit before (first ∷ past) turn later legal =
+    let allows : Transcript → Type 0 = λ ts. Allowed jobs unit ts turn.0 in
+    subst allows (append_assoc before (first ∷ []) past) (legal-at jobs unit (before ++ first ∷ []) past turn later legal.1)
+
+-- a destroy is permitted by a listing alone
+permits-listed : (jobs : JobSet) (number : ℕ) (unit_work : Work) (past : Transcript) (path name : List ℕ) → Permits jobs number unit_work past (cmd.DestroySnap path name) → WasListed (rules_of (job_at jobs number)) past path name
+permits-listed jobs number (work.PruneSource own) past path name permits = choose (listed own past) refl permits.1 where
+  choose : (told : Option (List VersionRow)) → listed own past ≡ told → Contains (doomed_in jobs number told) name → WasListed (rules_of (job_at jobs number)) past path name
+  choose None none within = absurd (no-element name within)
+  choose (Some rows) told within =
+      let on : List ℕ → Type 0 = λ p. Contains past (cmd.Versions p, answer.Done (reply.Versions rows)) in
+      record {
+        rows = rows;
+        told = subst on (sym permits.0) (listed-turn own past rows told);
+        may_go = doomed-may (rules_of (job_at jobs number)) rows name within;
+      }
+permits-listed jobs number other past path name permits = absurd permits
+
+-- a legal transcript destroys honestly
+pub legal-honest : (jobs : JobSet) (unit : Unit) (turns : Transcript) → Legal jobs unit turns → IsHonest jobs unit turns
+legal-honest jobs unit turns legal = λ past later path name given is.
+    let after : Transcript → Type 0 = LegalAfter jobs unit [] in
+    permits-listed jobs unit.job unit.work past path name (legal-at jobs unit [] past (cmd.DestroySnap path name, given) later (subst after is legal)).permits

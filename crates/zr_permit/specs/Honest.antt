@@ -1,0 +1,39 @@
+use Rattle.std.specs.Prelude.{◌≡◌, ◌<◌, ℕ, false, List, [], ◌∷◌, ◌++◌, Contains, length}
+use Rattle.zr_names.specs.declared.unit.Unit.{Unit}
+use Rattle.zr_world.specs.declared.command.Answer.{Answer}
+use Rattle.zr_world.specs.declared.command.Answer.TheVariants as answer
+use Rattle.zr_world.specs.declared.command.Cmd.TheVariants as cmd
+use Rattle.zr_world.specs.declared.command.Reply.TheVariants as reply
+use Rattle.zr_world.specs.declared.version.VersionName.TheVariants.{Snap}
+use Rattle.zr_world.specs.declared.version.VersionRow.{VersionRow}
+use Rattle.zr_permit.specs.declared.job.JobSet.{JobSet}
+use Rattle.zr_permit.specs.declared.job.RuleSpec.{RuleSpec}
+use Rattle.zr_permit.specs.Jobs.{job_at, rules_of}
+use Rattle.zr_permit.specs.Keep.{retained}
+use Rattle.zr_permit.specs.Transcript.{Transcript}
+
+-- a listing shows a snapshot of this name that has no holds and that none of the rules keeps; there is at
+-- least one rule
+pub record MayGo (rules : List RuleSpec) (rows : List VersionRow) (name : List ℕ) : Type 0 where
+  pub some_rule : 0 < length rules
+  pub earlier : List VersionRow
+  pub row : VersionRow
+  pub later : List VersionRow
+  pub listed : rows ≡ earlier ++ row ∷ later
+  pub named : row.name ≡ Snap name
+  pub no_holds : row.refs ≡ 0
+  pub kept_by_none : retained rules rows row later ≡ false
+
+-- a unit has listed a dataset before, and by that listing the snapshot of this name may be destroyed
+pub record WasListed (rules : List RuleSpec) (past : Transcript) (path name : List ℕ) : Type 0 where
+  pub rows : List VersionRow
+  pub told : Contains past (cmd.Versions path, answer.Done (reply.Versions rows))
+  pub may_go : MayGo rules rows name
+
+-- honest destruction: each snapshot that a unit gave for destruction stood in a listing of its dataset that
+-- the unit had taken before, with no holds and kept by no rule of the job
+abbrev pub IsHonest : JobSet → Unit → Transcript → Type 0
+IsHonest jobs unit turns =
+    (past later : Transcript) (path name : List ℕ) (given : Answer) →
+    turns ≡ past ++ (cmd.DestroySnap path name, given) ∷ later →
+    WasListed (rules_of (job_at jobs unit.job)) past path name

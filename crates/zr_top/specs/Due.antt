@@ -1,0 +1,87 @@
+use Rattle.std.specs.Prelude.{◌≡◌, ◌⊎◌, ℕ, List, [], ◌++◌, Option, Some, None, All, flat_map, length, map}
+use Rattle.std.specs.List.{AllZip, range_with_len}
+use Rattle.zr_names.specs.Count.{Rose}
+use Rattle.zr_names.specs.declared.outcome.Outcome.{Outcome}
+use Rattle.zr_names.specs.declared.totals.Totals.{Totals}
+use Rattle.zr_names.specs.declared.unit.Unit.{Unit}
+use Rattle.zr_names.specs.declared.unit.Work.TheVariants as work
+use Rattle.zr_world.specs.declared.command.Entry.{Entry}
+use Rattle.zr_world.specs.Answering.{appended}
+use Rattle.zr_permit.specs.declared.job.JobSet.{JobSet}
+use Rattle.zr_permit.specs.Transcript.{Transcript}
+use Rattle.zr_snap.specs.Scanning.{Gives}
+use Rattle.zr_top.specs.Attempts.{Attempt, Attempted, EndsWell, entries, IsGood, no_totals, run_entries, tallied_all, totals_of}
+
+-- the scan of a job at a moment
+abbrev pub scan_of : ℕ → ℕ → Unit
+scan_of moment number = record { job = number; moment = moment; work = work.Scan }
+
+-- the scans of the first jobs of a file
+abbrev pub first_scans : ℕ → ℕ → List Unit
+first_scans moment count = map (scan_of moment) (range_with_len 0 count)
+
+-- the scans that are due at a moment: that of each job, in the order of the file
+abbrev pub due_scans : JobSet → ℕ → List Unit
+due_scans jobs moment = first_scans moment (length jobs.jobs)
+
+-- what a scan found: the units of its listing; none where it did not end well or was not begun
+abbrev pub Finds : JobSet → Unit → Option (ℕ × Transcript) → Outcome → List Unit → Type 0
+Finds jobs unit None ended units = units ≡ []
+Finds jobs unit (Some begun) ended units = Gives jobs unit begun.1 ended units
+
+abbrev pub Found : JobSet → Attempt → List Unit → Type 0
+Found jobs attempt units = Finds jobs attempt.unit attempt.begun attempt.ended units
+
+-- a scan was run, or could not begin for want of memory, and found these units
+pub record ScanRan (jobs : JobSet) (unit : Unit) (before now : Option (List Entry)) (ended : Outcome) (units : List Unit) : Type 0 where
+  pub begun : Option (ℕ × Transcript)
+  pub ends_well : EndsWell jobs unit ended begun
+  pub recorded : now ≡ appended before (run_entries unit begun)
+  pub finds : Finds jobs unit begun ended units
+
+-- the scans of the first jobs were run, and each found its units
+pub record ScansRan (jobs : JobSet) (moment count : ℕ) (before now : Option (List Entry)) (start totals : Totals) (found : List (List Unit)) : Type 0 where
+  pub attempts : List Attempt
+  pub units_are : map (λ (a : Attempt). a.unit) attempts ≡ first_scans moment count
+  pub good : All (IsGood jobs) attempts
+  pub recorded : now ≡ appended before (entries attempts)
+  pub totals_are : totals ≡ tallied_all attempts start
+  pub found_are : AllZip (Found jobs) attempts found
+
+-- units of several scans one after the other
+abbrev pub joined : List (List Unit) → List Unit
+joined found = flat_map (λ (units : List Unit). units) found
+
+-- of these units the first were run, and these are left
+pub record RunUpTo (jobs : JobSet) (all left : List Unit) (before now : Option (List Entry)) (start totals : Totals) : Type 0 where
+  pub run : List Unit
+  pub parts : run ++ left ≡ all
+  pub ran : Attempted jobs run before now start totals
+
+-- all that was due at a moment was attempted: the scan of each job in the order of the file, and then each
+-- unit that a scan found, once and in this order
+pub record AllDue (jobs : JobSet) (moment : ℕ) (attempts : List Attempt) : Type 0 where
+  pub scans : List Attempt
+  pub others : List Attempt
+  pub parts : attempts ≡ scans ++ others
+  pub scans_are : map (λ (a : Attempt). a.unit) scans ≡ due_scans jobs moment
+  pub found : List (List Unit)
+  pub found_are : AllZip (Found jobs) scans found
+  pub others_are : map (λ (a : Attempt). a.unit) others ≡ joined found
+
+-- where the clock has ended, nothing is due
+abbrev pub IsDue : JobSet → Option ℕ → List Attempt → Type 0
+IsDue jobs None attempts = attempts ≡ []
+IsDue jobs (Some moment) attempts = AllDue jobs moment attempts
+
+-- all that was due was attempted, and these are the record and the totals
+pub record RanDue (jobs : JobSet) (moment : Option ℕ) (before now : Option (List Entry)) (totals : Totals) : Type 0 where
+  pub attempts : List Attempt
+  pub due : IsDue jobs moment attempts
+  pub good : All (IsGood jobs) attempts
+  pub recorded : now ≡ appended before (entries attempts)
+  pub totals_are : totals ≡ totals_of attempts
+
+-- the totals have as many failed children as before, or the count of failed children rose
+abbrev pub FaultsRose : Totals → Totals → ℕ → ℕ → Type 0
+FaultsRose start totals before now = (totals.faults ≡ start.faults) ⊎ Rose before now
