@@ -1,10 +1,11 @@
-use Rattle.std.specs.Prelude.{⊤, ◌≡◌, ℕ, ◌<◌, ◌≤◌, Bool, true, codes, List, [], ◌∷◌, ◌++◌, if◌then◌else◌, Some, None, Result, Ok, Err, length, pos, IsUtf8}
+use Rattle.std.specs.Prelude.{⊤, ◌≡◌, ℕ, ◌<◌, ◌≤◌, Bool, true, codes, List, [], ◌∷◌, Some, None, Result, Ok, Err, length, pos, IsUtf8}
 use Rattle.toml.specs.Data.{Data, string, integer, boolean, array, table, no_items, item, Members, no_members, member}
 use Rattle.toml.specs.Parse.{parse_document}
-use Rattle.zr_names.specs.declared.names.TheConstants.{JOB_LIMIT, PATH_LIMIT}
-use Rattle.zr_names.specs.Names.{IsName, name_is_bad, path_is_bad}
+use Rattle.zr_names.specs.declared.names.TheConstants.{JOB_LIMIT}
+use Rattle.zr_names.specs.Names.{IsName, name_is_bad}
+use Rattle.zr_filter.specs.declared.entry.Entry.{Entry}
+use Rattle.zr_filter.specs.Patterns.{ReadsPattern}
 use Rattle.zr_permit.specs.declared.job.JobSet.{JobSet}
-use Rattle.zr_permit.specs.declared.job.Pattern.{Pattern}
 use Rattle.zr_permit.specs.declared.job.RuleSpec.TheVariants.{LastN}
 use Rattle.zr_jobfile.specs.declared.TheConstants.{FILE_LIMIT}
 use Rattle.zr_jobfile.specs.declared.JobFault.{JobFault}
@@ -56,27 +57,28 @@ one_job_file job = member (codes "jobs") (array (item job no_items)) no_members
 abbrev pub snap_file : List ℕ → List ℕ → ℕ → Members
 snap_file name pattern count = one_job_file (job_tree name pattern count)
 
--- a pattern's text: its path, and `<` where all below the path are meant too
-abbrev pub pattern_text : Pattern → List ℕ
-pattern_text filter = if filter.subtree then filter.path ++ 60 ∷ [] else filter.path
-
--- one job of this name with this filter, which keeps the newest `count` snapshots
-abbrev pub one_job : List ℕ → Pattern → ℕ → JobSet
-one_job name filter count = record {
-  jobs = record { name = name; filter = filter; keep_source = LastN count ∷ [] } ∷ [];
+-- one job of this name with this entry as its filter, which keeps the newest `count` snapshots
+abbrev pub one_job : List ℕ → Entry → ℕ → JobSet
+one_job name entry count = record {
+  jobs = record { name = name; filter = record { entries = entry ∷ [] }; keep_source = LastN count ∷ [] } ∷ [];
 }
+
+-- the text is a pattern that includes, and this is its entry
+abbrev pub IsPattern : List ℕ → Entry → Type 0
+IsPattern text entry = ReadsPattern text true (Ok entry)
 
 -- the tree is that of a snap job file, and these are its jobs
 pub record IsSnapFile (tree : Members) (jobs : JobSet) : Type 0 where
   pub name : List ℕ
-  pub filter : Pattern
+  pub pattern : List ℕ
+  pub entry : Entry
   pub count : ℕ
-  pub tree_is : tree ≡ snap_file name (pattern_text filter) count
+  pub tree_is : tree ≡ snap_file name pattern count
   pub name_is : IsName name_is_bad JOB_LIMIT name
-  pub path_is : IsName path_is_bad PATH_LIMIT filter.path
+  pub pattern_is : IsPattern pattern entry
   pub keeps_some : 0 < count
   pub fits : count ≤ 4294967295
-  pub jobs_are : jobs ≡ one_job name filter count
+  pub jobs_are : jobs ≡ one_job name entry count
 
 -- what a text is answered as a name: the name exactly where it is one
 abbrev pub Names : (List ℕ → ℕ → Bool) → ℕ → List ℕ → Result (List ℕ) JobFault → Type 0
@@ -85,14 +87,10 @@ Names is_bad limit text (Err NotBuilt) = ¬ IsName is_bad limit text
 Names is_bad limit text (Err NoMemory) = ⊤
 Names is_bad limit text (Err other) = ⊥
 
--- the text is that of this filter, whose path is one
-abbrev pub IsPattern : List ℕ → Pattern → Type 0
-IsPattern text filter = (text ≡ pattern_text filter) × IsName path_is_bad PATH_LIMIT filter.path
-
--- what a text is answered as a pattern: the filter exactly where it is one's text
-abbrev pub Patterns : List ℕ → Result Pattern JobFault → Type 0
-Patterns text (Ok filter) = IsPattern text filter
-Patterns text (Err NotBuilt) = (filter : Pattern) → ¬ IsPattern text filter
+-- what a text is answered as a pattern: the entry exactly where it is one
+abbrev pub Patterns : List ℕ → Result Entry JobFault → Type 0
+Patterns text (Ok entry) = IsPattern text entry
+Patterns text (Err NotBuilt) = (entry : Entry) → ¬ IsPattern text entry
 Patterns text (Err NoMemory) = ⊤
 Patterns text (Err other) = ⊥
 

@@ -1,16 +1,17 @@
 //! The jobs of a tree with the shape of a job file.
-ghost use Rattle.std.specs.Prelude.{◌≡◌, ◌≢◌, [], ◌∷◌, ◌++◌, IfSome, IfNone, IfOk, List, ℕ};
+ghost use Rattle.std.specs.Prelude.{◌≡◌, IfOk};
 ghost use Rattle.toml.specs.View.{table_view};
 ghost use Rattle.zr_jobfile.specs.SnapFile.{Builds, Names, one_job, Patterns};
-ghost use Rattle.zr_names.specs.declared.names.TheConstants.{JOB_LIMIT, PATH_LIMIT};
-ghost use Rattle.zr_names.specs.Names.{name_is_bad, path_is_bad};
+ghost use Rattle.zr_names.specs.declared.names.TheConstants.{JOB_LIMIT};
+ghost use Rattle.zr_names.specs.Names.{name_is_bad};
 
 use crate::JobFault;
 use crate::shape::file_parts;
 use std::alloc::{AllocError, Global};
 use toml::Table;
-use zr_names::{JobName, NameFault, Path, Rows, read_job, read_path};
-use zr_permit::{Job, JobSet, Pattern, RuleSpec};
+use zr_filter::{Entry, Filter, read_pattern};
+use zr_names::{JobName, NameFault, Rows, read_job};
+use zr_permit::{Job, JobSet, RuleSpec};
 
 fn job_name(alloc: Global, text: &str) -> Result<JobName, JobFault>
     ensures { Names name_is_bad JOB_LIMIT text.now result }
@@ -22,43 +23,24 @@ fn job_name(alloc: Global, text: &str) -> Result<JobName, JobFault>
     }
 }
 
-fn path(alloc: Global, text: &str) -> Result<Path, JobFault>
-    ensures { Names path_is_bad PATH_LIMIT text.now result }
+/// The entry of a filter that includes what a pattern stands for.
+fn entry(alloc: Global, text: &str) -> Result<Entry, JobFault>
+    ensures { Patterns text.now result }
 {
-    match read_path(alloc, text.as_bytes()) {
-        Ok(path) => Ok(path),
+    match read_pattern(alloc, text.as_bytes(), true) {
+        Ok(entry) => Ok(entry),
         Err(NameFault::NoMemory) => Err(JobFault::NoMemory),
         Err(_) => Err(JobFault::NotBuilt),
     }
 }
 
-/// The text before the `<` at the end.
-fn before_mark<'a>(text: &'a str) -> Option<&'a str>
-    ensures found { IfSome result (λ front. text.now ≡ front.now ++ 60 ∷ []) }
-    ensures missing { IfNone result ((front : List ℕ) → text.now ≢ front ++ 60 ∷ []) }
-{
-    text.strip_suffix('<')
-}
-
-fn pattern(alloc: Global, text: &str) -> Result<Pattern, JobFault>
-    ensures { Patterns text.now result }
-{
-    match before_mark(text) {
-        Some(front) => Ok(Pattern {
-            path: path(alloc, front)?,
-            subtree: true,
-        }),
-        None => Ok(Pattern {
-            path: path(alloc, text)?,
-            subtree: false,
-        }),
-    }
-}
-
 /// A job set of this one job.
-fn one_job(alloc: Global, name: JobName, filter: Pattern, count: u32) -> Result<JobSet, AllocError>
-    ensures { IfOk result (λ jobs. jobs ≡ one_job name filter count) }
+fn one_job(alloc: Global, name: JobName, entry: Entry, count: u32) -> Result<JobSet, AllocError>
+    ensures { IfOk result (λ jobs. jobs ≡ one_job name entry count) }
 {
+    let mut entries = Rows::new(alloc);
+    entries.push(entry)?;
+    let filter = Filter { entries };
     let mut keep_source = Rows::new(alloc);
     keep_source.push(RuleSpec::LastN { count })?;
     let mut jobs = Rows::new(alloc);
@@ -79,8 +61,8 @@ pub(crate) fn build(alloc: Global, tree: &Table) -> Result<JobSet, JobFault>
         None => return Err(JobFault::NotBuilt),
     };
     let name = job_name(alloc, parts.name)?;
-    let filter = pattern(alloc, parts.pattern)?;
-    match one_job(alloc, name, filter, parts.count) {
+    let entry = entry(alloc, parts.pattern)?;
+    match one_job(alloc, name, entry, parts.count) {
         Ok(jobs) => Ok(jobs),
         Err(_) => Err(JobFault::NoMemory),
     }

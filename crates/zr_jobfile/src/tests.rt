@@ -2,6 +2,7 @@ use super::*;
 use std::alloc::AllocGlobal;
 use std::process::Abort;
 use std::test::Fail;
+use zr_names::Path;
 use zr_permit::RuleSpec;
 
 // A file as a person writes it.
@@ -13,7 +14,7 @@ fn reads_as<R: Abort + AllocGlobal>(
     rt: &R,
     text: &str,
     name: &[u8],
-    path: &[u8],
+    path: Option<&[u8]>,
     subtree: bool,
     count: u32,
 ) {
@@ -22,8 +23,15 @@ fn reads_as<R: Abort + AllocGlobal>(
             let jobs = set.jobs.as_slice();
             assert_eq!(rt; jobs.len(), 1, "{text}");
             assert_eq!(rt; jobs[0].name.as_bytes(), name, "{text}");
-            assert_eq!(rt; jobs[0].filter.path.as_bytes(), path, "{text}");
-            assert_eq!(rt; jobs[0].filter.subtree, subtree, "{text}");
+            let entries = jobs[0].filter.entries.as_slice();
+            assert_eq!(rt; entries.len(), 1, "{text}");
+            assert_eq!(rt;
+                entries[0].path.as_ref().map(Path::as_bytes),
+                path,
+                "{text}"
+            );
+            assert_eq!(rt; entries[0].subtree, subtree, "{text}");
+            assert!(rt; entries[0].allow, "{text}");
             assert_eq!(rt;
                 jobs[0].keep_source.as_slice(),
                 [RuleSpec::LastN { count }].as_slice(),
@@ -36,7 +44,7 @@ fn reads_as<R: Abort + AllocGlobal>(
 
 #[test]
 fn a_snap_job_with_a_subtree(rt: HostRuntime) {
-    reads_as(&rt, FILE, b"s", b"tank", true, 2);
+    reads_as(&rt, FILE, b"s", Some(b"tank"), true, 2);
 }
 
 // The same tree in one line, and with other names and numbers.
@@ -46,7 +54,7 @@ fn inline_tables_and_the_ends_of_each_range(rt: HostRuntime) {
         &rt,
         "jobs = [{ name = \"s\", type = \"snap\", filesystems = { \"tank<\" = true }, snapshotting = { type = \"manual\" }, pruning = { keep = [{ type = \"last_n\", count = 2 }] } }]",
         b"s",
-        b"tank",
+        Some(b"tank"),
         true,
         2,
     );
@@ -54,7 +62,7 @@ fn inline_tables_and_the_ends_of_each_range(rt: HostRuntime) {
         &rt,
         "jobs = [{ name = \"s\", type = \"snap\", filesystems = { tank = true }, snapshotting = { type = \"manual\" }, pruning = { keep = [{ type = \"last_n\", count = 2 }] } }]",
         b"s",
-        b"tank",
+        Some(b"tank"),
         false,
         2,
     );
@@ -62,15 +70,15 @@ fn inline_tables_and_the_ends_of_each_range(rt: HostRuntime) {
         &rt,
         "jobs = [{ name = \"s\", type = \"snap\", filesystems = { \"tank/a b<\" = true }, snapshotting = { type = \"manual\" }, pruning = { keep = [{ type = \"last_n\", count = 1 }] } }]",
         b"s",
-        b"tank/a b",
+        Some(b"tank/a b"),
         true,
         1,
     );
     reads_as(
         &rt,
-        "jobs = [{ name = \"s\", type = \"snap\", filesystems = { \"tank<\" = true }, snapshotting = { type = \"manual\" }, pruning = { keep = [{ type = \"last_n\", count = 4294967295 }] } }]",
+        "jobs = [{ name = \"s\", type = \"snap\", filesystems = { \"<\" = true }, snapshotting = { type = \"manual\" }, pruning = { keep = [{ type = \"last_n\", count = 4294967295 }] } }]",
         b"s",
-        b"tank",
+        None,
         true,
         4294967295,
     );
@@ -78,7 +86,7 @@ fn inline_tables_and_the_ends_of_each_range(rt: HostRuntime) {
         &rt,
         "jobs = [{ name = \"aaaaaaaaaaaaaaaaaaaaaaaaaaaaaaaaaaaaaaaaaaaaaaaaaaaaaaaaaaaaaaaa\", type = \"snap\", filesystems = { \"tank<\" = true }, snapshotting = { type = \"manual\" }, pruning = { keep = [{ type = \"last_n\", count = 2 }] } }]",
         b"aaaaaaaaaaaaaaaaaaaaaaaaaaaaaaaaaaaaaaaaaaaaaaaaaaaaaaaaaaaaaaaa",
-        b"tank",
+        Some(b"tank"),
         true,
         2,
     );
@@ -105,7 +113,7 @@ fn no_toml(rt: HostRuntime) {
     }
 }
 
-const NOT_BUILT: [(&str, &str); 33] = [
+const NOT_BUILT: [(&str, &str); 32] = [
     ("an empty document", ""),
     ("no jobs", "jobs = []"),
     ("a table in place of the jobs", "[jobs]\nname = \"s\""),
@@ -168,10 +176,6 @@ const NOT_BUILT: [(&str, &str); 33] = [
     (
         "two marks",
         "jobs = [{ name = \"s\", type = \"snap\", filesystems = { \"tank<<\" = true }, snapshotting = { type = \"manual\" }, pruning = { keep = [{ type = \"last_n\", count = 2 }] } }]",
-    ),
-    (
-        "a mark with no path",
-        "jobs = [{ name = \"s\", type = \"snap\", filesystems = { \"<\" = true }, snapshotting = { type = \"manual\" }, pruning = { keep = [{ type = \"last_n\", count = 2 }] } }]",
     ),
     (
         "an empty pattern",

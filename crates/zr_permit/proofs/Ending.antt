@@ -1,4 +1,4 @@
-use Rattle.std.proofs.Common.{◌≡◌, ◌≢◌, ◌∙◌, ℕ, ◌+◌, List, [], ◌∷◌, ◌++◌, Some, None, ap, refl, sym, subst, length, length-append, slice_get, arith}
+use Rattle.std.proofs.Common.{◌≡◌, ◌≢◌, ◌∙◌, ℕ, ◌+◌, [], ◌∷◌, ◌++◌, Some, ap, refl, length, length-append, slice_get, arith}
 use Rattle.zr_names.specs.declared.unit.Unit.{Unit}
 use Rattle.zr_world.specs.declared.command.Answer.{Answer}
 use Rattle.zr_world.specs.declared.command.Answer.TheVariants as answer
@@ -6,9 +6,9 @@ use Rattle.zr_world.specs.declared.command.Cmd.{Cmd}
 use Rattle.zr_permit.specs.declared.job.JobSet.{JobSet}
 use Rattle.zr_permit.specs.declared.told.Told.{Told}
 use Rattle.zr_permit.specs.declared.told.Told.TheVariants as told
-use Rattle.zr_permit.specs.Result.{capped, ended_as, FaultsAt, GarbledAt, ResultOf}
+use Rattle.zr_permit.specs.Result.{capped, ended_as, ResultOf}
 use Rattle.zr_permit.specs.Transcript.{GoesOn, Transcript, Turn}
-use Rattle.zr_permit.specs.Turned.{HasTurned, told_of, Turns}
+use Rattle.zr_permit.specs.Turned.{told_of, Turns}
 
 -- the last of some turns
 last-turn : (turns : Transcript) (turn : Turn) → slice_get (turns ++ turn ∷ []) (length turns) ≡ Some turn

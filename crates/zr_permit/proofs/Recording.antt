@@ -1,4 +1,4 @@
-use Rattle.std.proofs.Common.{◌≡◌, ◌∙◌, List, [], ◌∷◌, ◌++◌, Option, Some, None, ap, inl, inr, refl, sym, append_assoc, map, ◌⊎◌}
+use Rattle.std.proofs.Common.{◌≡◌, ◌∙◌, List, [], ◌∷◌, ◌++◌, Option, Some, None, ap, inl, inr, refl, sym, append_assoc}
 use Rattle.zr_names.specs.declared.unit.Unit.{Unit}
 use Rattle.zr_world.specs.declared.command.Answer.{Answer}
 use Rattle.zr_world.specs.declared.command.Answer.TheVariants as answer
@@ -7,7 +7,7 @@ use Rattle.zr_world.specs.declared.command.Entry.{Entry}
 use Rattle.zr_world.specs.declared.command.Entry.TheVariants.{Call}
 use Rattle.zr_world.specs.Answering.{appended, Logs}
 use Rattle.zr_permit.specs.declared.job.JobSet.{JobSet}
-use Rattle.zr_permit.specs.Transcript.{Allowed, Legal, Transcript, Turn}
+use Rattle.zr_permit.specs.Transcript.{Allowed, Legal, Transcript}
 use Rattle.zr_permit.specs.Turned.{calls, Records, RecordsLegal, RecordsRun, told_of}
 use Rattle.zr_permit.proofs.Legality.{legal-more}
 

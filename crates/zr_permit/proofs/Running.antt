@@ -1,5 +1,5 @@
 use Rattle.std.specs.Prelude.{⊤}
-use Rattle.std.proofs.Common.{◌≡◌, ◌∙◌, ℕ, List, [], ◌∷◌, ◌++◌, Option, Some, None, ap, append-nil, append_assoc, inl, inr, refl, subst, sym, true, false}
+use Rattle.std.proofs.Common.{◌≡◌, ◌∙◌, ℕ, List, [], ◌∷◌, Option, Some, None, ap, append-nil, append_assoc, inl, refl, subst, sym, true, false}
 use Rattle.zr_names.specs.declared.outcome.Outcome.{Outcome}
 use Rattle.zr_names.specs.declared.outcome.Outcome.TheVariants as outcome
 use Rattle.zr_names.specs.declared.unit.Unit.{Unit}
@@ -32,18 +32,24 @@ RunWith jobs unit run before now ended Known =
     (ran : HasRun jobs unit run before now ended) × (is_out_of_memory ended ≡ false → Known ran.turns)
 
 has-run : (jobs : JobSet) (unit : Unit) (run : ℕ) (before now : Option (List Entry)) (turns : Transcript) (ended : Outcome) (Known : Transcript → Type 0) → Legal jobs unit turns → ResultOf jobs unit turns ended → RecordsUnit (appended before (Begin unit run ∷ [])) now jobs unit turns ended → Known turns → RunWith jobs unit run before now ended Known
-has-run jobs unit run before now turns outcome.NoMemory Known legal result records known = (record {
-  turns = records.kept;
-  legal = records.legal;
-  result = λ ample. absurd (not-short ample);
-  recorded = after-begin before now unit run records.kept records.records;
-}, λ ample. absurd (not-short ample))
-has-run jobs unit run before now turns other Known legal result records known = (record {
-  turns = turns;
-  legal = legal;
-  result = λ ample. result;
-  recorded = after-begin before now unit run turns records;
-}, λ ample. known)
+has-run jobs unit run before now turns outcome.NoMemory Known legal result records known = (
+  record {
+    turns = records.kept;
+    legal = records.legal;
+    result = λ ample. absurd (not-short ample);
+    recorded = after-begin before now unit run records.kept records.records;
+  },
+  λ ample. absurd (not-short ample),
+)
+has-run jobs unit run before now turns other Known legal result records known = (
+  record {
+    turns = turns;
+    legal = legal;
+    result = λ ample. result;
+    recorded = after-begin before now unit run turns records;
+  },
+  λ ample. known,
+)
 
 -- what a unit function says of its unit, once it has begun
 abbrev pub Says : Option (List Entry) → Option (List Entry) → Transcript → Outcome → JobSet → Unit → Type 0

@@ -1,4 +1,4 @@
-use Rattle.std.specs.Prelude.{◌≡◌, ◌<◌, ℕ, false, List, [], ◌∷◌, ◌++◌, Contains, length}
+use Rattle.std.specs.Prelude.{◌≡◌, ◌<◌, ℕ, false, List, ◌∷◌, ◌++◌, Contains, length}
 use Rattle.zr_names.specs.declared.unit.Unit.{Unit}
 use Rattle.zr_world.specs.declared.command.Answer.{Answer}
 use Rattle.zr_world.specs.declared.command.Answer.TheVariants as answer

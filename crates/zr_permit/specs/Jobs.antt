@@ -1,26 +1,16 @@
-use Rattle.std.specs.Prelude.{⊤, ◌≡◌, ◌==◌, ◌&&◌, ◌||◌, ℕ, ◌+◌, ◌<◌, ◌≤◌, Bool, true, false, if◌then◌else◌, List, [], ◌∷◌, ◌++◌, Option, Some, None, nat_eq, nat_le, Contains, IsPermutation, filter, map, flat_map, length, slice_get, slice_index, is_some, not}
-use Rattle.std.specs.List.{starts_with}
+use Rattle.std.specs.Prelude.{⊤, ◌≡◌, ℕ, ◌<◌, Bool, false, List, [], ◌∷◌, Option, Some, None, nat_le, Contains, IsPermutation, filter, map, flat_map, length, slice_get}
 use Rattle.std.specs.List.Sorted.{IsSorted}
 use Rattle.std.specs.Ordering.{nat_cmp}
-use Rattle.std.specs.Cmp.Lexicographic.{pointwise, slice_cmp}
+use Rattle.std.specs.Cmp.Lexicographic.{slice_cmp}
 use Rattle.zr_names.specs.declared.unit.Unit.{Unit}
 use Rattle.zr_names.specs.declared.unit.Work.{Work}
 use Rattle.zr_names.specs.declared.unit.Work.TheVariants as work
 use Rattle.zr_world.specs.declared.version.SetRow.{SetRow}
 use Rattle.zr_permit.specs.declared.job.Job.{Job}
 use Rattle.zr_permit.specs.declared.job.JobSet.{JobSet}
-use Rattle.zr_permit.specs.declared.job.Pattern.{Pattern}
+use Rattle.zr_filter.specs.Rule.{matches}
 use Rattle.zr_permit.specs.declared.job.RuleSpec.{RuleSpec}
 use Rattle.zr_permit.specs.declared.job.TheConstants.{LONGEST_PATH}
-
--- the path lies below a root: it begins with the root, and a `/` follows
-abbrev pub lies_below : List ℕ → List ℕ → Bool
-lies_below root path = starts_with nat_eq path root && (slice_index path (length root) == 47)
-
--- a pattern matches its own path, and with `<` each path below it
-abbrev pub matches : Pattern → List ℕ → Bool
-matches pattern path =
-    pointwise nat_eq path pattern.path || (pattern.subtree && lies_below pattern.path path)
 
 -- the job of this number
 abbrev pub job_at : JobSet → ℕ → Option Job

@@ -1,4 +1,4 @@
-use Rattle.std.specs.Prelude.{⊤, ◌≡◌, ◌⊎◌, ℕ, Bool, true, false, List, [], ◌∷◌, ◌++◌, ◌-◌, Option, length, map, option_map, slice_get}
+use Rattle.std.specs.Prelude.{◌≡◌, ◌⊎◌, Bool, true, false, List, [], ◌∷◌, ◌++◌, ◌-◌, Option, length, map, option_map, slice_get}
 use Rattle.zr_world.specs.declared.command.Answer.{Answer}
 use Rattle.zr_world.specs.declared.command.Answer.TheVariants as answer
 use Rattle.zr_world.specs.declared.command.Cmd.{Cmd}

@@ -1,6 +1,7 @@
 ghost use Rattle.std.specs.Prelude.{◌≡◌};
-ghost use Rattle.zr_permit.specs.Jobs.{fits, lies_below};
+ghost use Rattle.zr_permit.specs.Jobs.{fits};
 
+use zr_filter::{Filter, matches};
 use zr_names::{JobName, Path, Rows};
 
 /// The longest path on which a unit works, in bytes: a bookmark's name of the longest kind still fits
@@ -14,18 +15,11 @@ pub enum RuleSpec {
     LastN { count: u32 },
 }
 
-/// The datasets of a job: one path, or with `<` that path and all below it.
-#[derive(Debug, Drop)]
-pub struct Pattern {
-    pub path: Path,
-    pub subtree: bool,
-}
-
 /// A job that prunes the snapshots of the datasets that its filter matches.
 #[derive(Debug, Drop)]
 pub struct Job {
     pub name: JobName,
-    pub filter: Pattern,
+    pub filter: Filter,
     /// With no rules nothing is destroyed.
     pub keep_source: Rows<RuleSpec>,
 }
@@ -34,26 +28,6 @@ pub struct Job {
 #[derive(Debug, Drop)]
 pub struct JobSet {
     pub jobs: Rows<Job>,
-}
-
-/// Whether a path lies below a root: it begins with the root, and a `/` follows.
-fn lies_below(root: &Path, path: &Path) -> bool
-    ensures { result ≡ lies_below root.now path.now }
-{
-    let root = root.as_bytes();
-    let path = path.as_bytes();
-    path.starts_with(root) && path.get(root.len()) == Some(&b'/')
-}
-
-impl Pattern {
-    ghost use Rattle.std.specs.Prelude.{◌≡◌};
-    ghost use Rattle.zr_permit.specs.Jobs.{matches};
-
-    pub fn matches(&self, path: &Path) -> bool
-        ensures { result ≡ matches self.now path.now }
-    {
-        *path == self.path || (self.subtree && lies_below(&self.path, path))
-    }
 }
 
 impl JobSet {
@@ -73,7 +47,7 @@ impl JobSet {
         ensures { result ≡ matches_in (job_at self.now number) path.now }
     {
         match self.job(number) {
-            Some(job) => job.filter.matches(path),
+            Some(job) => matches(&job.filter, path),
             None => false,
         }
     }

@@ -2,7 +2,7 @@
 #![tactic(auto)]
 
 pub use guarded::{Guarded, Unbegun};
-pub use job::{Job, JobSet, Pattern, RuleSpec, fits};
+pub use job::{Job, JobSet, RuleSpec, fits};
 pub use keep::doomed;
 pub use log::Log;
 pub use told::Told;
@@ -11,4 +11,6 @@ pub mod guarded;
 pub mod job;
 pub mod keep;
 pub mod log;
+#[cfg(test)]
+mod tests;
 pub mod told;
