@@ -1,0 +1,5 @@
+pub mod Decimal
+pub mod Moments
+pub mod Parts
+pub mod Rising
+pub mod Shown
