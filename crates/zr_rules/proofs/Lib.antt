@@ -1,0 +1,9 @@
+pub mod Read
+pub mod Taken
+pub mod Texts
+pub mod Seen
+pub mod Marked
+pub mod RuleMarks
+pub mod Places
+pub mod Orders
+pub mod Ranks

@@ -1,0 +1,19 @@
+//! The rules by which snapshots are kept.
+#![tactic(auto)]
+
+mod compiling;
+mod gridding;
+mod keeping;
+mod marking;
+mod pattern;
+mod patterns;
+mod rule;
+mod seeing;
+
+pub use compiling::{RuleFault, Rules, compile, have_grids};
+pub use keeping::kept;
+pub use patterns::{BuildFault, Patterns, RegexPatterns};
+pub use rule::{PatternText, RuleRow, RuleSpec};
+
+#[cfg(test)]
+mod tests;
