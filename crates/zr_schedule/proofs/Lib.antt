@@ -1,0 +1,12 @@
+pub mod Fields
+pub mod Sets
+pub mod Faults
+pub mod Parts
+pub mod Scans
+pub mod Items
+pub mod Tokens
+pub mod Months
+pub mod Days
+pub mod Minutes
+pub mod Moments
+pub mod Only

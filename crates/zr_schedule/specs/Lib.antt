@@ -1,0 +1,10 @@
+pub mod Calendar
+pub mod Schedule
+pub mod Search
+pub mod Due
+pub mod Words
+pub mod Tokens
+pub mod Cron
+pub mod Fault
+pub mod Read
+pub mod Scan
