@@ -1,21 +1,20 @@
-use Rattle.std.proofs.Common.{◌≡◌, ◌≢◌, ℕ, ◌+◌, Bool, true, false, List, [], ◌∷◌, ◌++◌, Option, Some, None, AllPairs, IsPermutation, refl, ap, ◌∙◌, sym, subst, rules, ◌⊎◌, inl, inr, drop}
+use Rattle.std.proofs.Common.{◌≡◌, ℕ, false, List, [], ◌∷◌, ◌++◌, Option, Some, None, IsPermutation, refl, ap, ◌∙◌, sym, subst, inl, inr, drop}
 use Rattle.std.specs.Prelude.{flat_map}
 use Rattle.std.proofs.lemmas.Grind.{flat_map-append}
 use Rattle.std.proofs.lemmas.List.{append-nil}
 use Rattle.std.proofs.lemmas.List.Sorted.{IsPermutation-sym, IsPermutation-trans}
 use Rattle.zr_cmd.specs.Words.{IsNamed, Spells, words_of}
 use Rattle.zr_listing.specs.Columns.{full_name, IsSetLine, IsVersionLine}
-use Rattle.zr_listing.specs.Lines.{IsFirstBad, lines_of, NamesDiffer}
+use Rattle.zr_listing.specs.Lines.{NamesDiffer}
 use Rattle.zr_listing.specs.Listing.{IsSetListing, IsVersionListing}
 use Rattle.zr_listing.proofs.Rows.{full_name-one}
 use Rattle.zr_listing.proofs.Sorting.{differ-permutation, version-list}
 use Rattle.zr_world.specs.Answering.{Answers, Acts, appended, is_no_memory, Logs}
-use Rattle.zr_world.specs.Effect.{Effect, step, go}
+use Rattle.zr_world.specs.Effect.{go}
 use Rattle.zr_world.specs.declared.command.Answer.{Answer}
 use Rattle.zr_world.specs.declared.command.Answer.TheVariants as answer
 use Rattle.zr_world.specs.declared.command.Cmd.{Cmd}
 use Rattle.zr_world.specs.declared.command.Cmd.TheVariants as cmd
-use Rattle.zr_world.specs.declared.command.Entry.{Entry}
 use Rattle.zr_world.specs.declared.command.Entry.TheVariants as entry
 use Rattle.zr_world.specs.declared.command.Reply.{Reply}
 use Rattle.zr_world.specs.declared.command.Reply.TheVariants as reply
@@ -23,16 +22,14 @@ use Rattle.zr_world.specs.declared.pools.Pools.{Pools}
 use Rattle.zr_world.specs.declared.version.SetRow.{SetRow}
 use Rattle.zr_world.specs.declared.version.VersionRow.{VersionRow}
 use Rattle.zr_exec.specs.declared.spawn.Line.{Line}
-use Rattle.zr_exec.specs.declared.spawn.Line.TheVariants as line
 use Rattle.zr_exec.specs.declared.spawn.RunExit.{RunExit}
 use Rattle.zr_exec.specs.declared.spawn.RunExit.TheVariants as exit
 use Rattle.zr_exec.specs.Answering.{IsAnswer}
 use Rattle.zr_exec.specs.Columns.{set_row_of, version_row_of}
-use Rattle.zr_exec.specs.Commands.{command_of}
 use Rattle.zr_exec.specs.Entries.{answer_in, answer_of, entries_of, entries_of_call, entries_of_line, sets_answer, versions_answer}
 use Rattle.zr_exec.specs.Recording.{call_line, Records, with_lines}
-use Rattle.zr_exec.specs.Rows.{in_order, rows_in}
-use Rattle.zr_exec.specs.Serving.{Does, DoesWords, IsReply, Serves}
+use Rattle.zr_exec.specs.Rows.{in_order}
+use Rattle.zr_exec.specs.Serving.{Does, IsReply, Serves}
 use Rattle.zr_exec.proofs.Commands.{command_of-spelled}
 use Rattle.zr_exec.proofs.Ends.{does_short}
 use Rattle.zr_exec.proofs.Orders.{in_order-same, in_order-sorted}

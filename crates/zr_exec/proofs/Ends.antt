@@ -1,4 +1,4 @@
-use Rattle.std.proofs.Common.{◌≡◌, ℕ, List, ◌⊎◌, inl, inr, ap, sym, subst}
+use Rattle.std.proofs.Common.{◌≡◌, ℕ, List, inl, inr, ap, sym, subst}
 use Rattle.zr_cmd.specs.Words.{Spells}
 use Rattle.zr_exec.specs.declared.spawn.Line.{Line}
 use Rattle.zr_exec.specs.declared.spawn.RunExit.{RunExit}
@@ -9,7 +9,7 @@ use Rattle.zr_exec.specs.Stored.{IsRecorded}
 use Rattle.zr_world.specs.declared.command.Cmd.{Cmd}
 use Rattle.zr_world.specs.declared.effects.Extent.TheVariants as extent
 use Rattle.zr_world.specs.declared.pools.Pools.{Pools}
-use Rattle.zr_world.specs.Effect.{step, left_by, at_extent}
+use Rattle.zr_world.specs.Effect.{left_by, at_extent}
 
 -- what a child did before memory was refused
 pub does_short : (command : Cmd) (before after : Pools) (exit : RunExit) (bytes : List ℕ) → Does command before after exit bytes → Does command before after NoMemory bytes

@@ -1,12 +1,11 @@
-use Rattle.std.proofs.Common.{◌≡◌, ◌≢◌, ◌==◌, ◌&&◌, ◌||◌, ℕ, ◌<◌, Bool, true, false, not, List, [], ◌∷◌, ◌++◌, Option, Some, None, drop, length, take, refl, arith, ap, ◌∙◌, sym, subst, rules}
+use Rattle.std.proofs.Common.{◌≡◌, ◌==◌, ◌&&◌, ℕ, Bool, true, false, List, [], ◌∷◌, ◌++◌, Option, Some, None, drop, length, take, refl, arith, ap, ◌∙◌, sym, subst}
 use Rattle.std.specs.Prelude.{codes, if◌then◌else◌}
 use Rattle.std.proofs.Math.Seq.{drop-append_seam, take-append_seam}
 use Rattle.std.proofs.lemmas.Bool.Decides.{nat_tests}
 use Rattle.std.proofs.lemmas.List.{take-append-drop}
 use Rattle.zr_names.specs.Names.{IsName, name_is_bad}
 use Rattle.zr_names.specs.declared.names.TheConstants.{NAME_LIMIT}
-use Rattle.zr_names.specs.declared.unit.Guid.{Guid}
-use Rattle.zr_listing.specs.Columns.{columns, IsNumber, IsRefs, IsSuffix, IsVersionLine, IsVersionName}
+use Rattle.zr_listing.specs.Columns.{columns, IsRefs, IsSuffix, IsVersionLine, IsVersionName}
 use Rattle.zr_world.specs.declared.version.VersionName.{VersionName}
 use Rattle.zr_world.specs.declared.version.VersionName.TheVariants.{Snap, Mark}
 use Rattle.zr_world.specs.declared.version.VersionRow.{VersionRow}

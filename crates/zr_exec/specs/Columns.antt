@@ -1,4 +1,4 @@
-use Rattle.std.specs.Prelude.{◌==◌, ◌&&◌, ◌||◌, ℕ, zero, suc, ◌^◌, Bool, true, false, not, if◌then◌else◌, List, [], ◌∷◌, Option, Some, None, codes, drop, length, nat_eq, nat_le, nat_lt, take}
+use Rattle.std.specs.Prelude.{◌==◌, ◌&&◌, ◌||◌, ℕ, zero, suc, ◌^◌, Bool, false, not, if◌then◌else◌, List, [], ◌∷◌, Option, Some, None, codes, drop, length, nat_eq, nat_le, nat_lt, take}
 use Rattle.std.specs.Cmp.Lexicographic.{pointwise}
 use Rattle.std.specs.Fmt.{decimal}
 use Rattle.std.specs.Str.Parse.{digits_value}

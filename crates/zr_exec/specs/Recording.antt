@@ -1,4 +1,4 @@
-use Rattle.std.specs.Prelude.{◌≡◌, ◌≢◌, ℕ, List, [], ◌∷◌, ◌++◌, Option, Some, None, ◌⊎◌}
+use Rattle.std.specs.Prelude.{◌≡◌, ℕ, List, [], ◌∷◌, ◌++◌, Option, Some, None, ◌⊎◌}
 use Rattle.zr_exec.specs.declared.spawn.Line.{Line}
 use Rattle.zr_exec.specs.declared.spawn.Line.TheVariants as line
 use Rattle.zr_exec.specs.declared.spawn.RunExit.{RunExit}

@@ -1,4 +1,4 @@
-use Rattle.std.proofs.Common.{◌≡◌, ◌≢◌, ◌∙◌, ℕ, zero, suc, ◌+◌, ◌-◌, ◌<◌, ◌≤◌, ◌^◌, Bool, true, false, List, [], ◌∷◌, ◌++◌, Option, Some, None, ap, refl, sym, subst, arith, length, length-append, length-take-le, map, min, take, take_all, get_or, cond, zero-add, add-zero, slice_get, ◌⊎◌, inl, inr}
+use Rattle.std.proofs.Common.{◌≡◌, ◌≢◌, ◌∙◌, ℕ, ◌+◌, ◌-◌, ◌<◌, ◌≤◌, ◌^◌, Bool, true, List, [], ◌∷◌, ◌++◌, Some, ap, refl, sym, subst, arith, length, length-take-le, map, min, take, take_all, get_or, cond, zero-add, add-zero, ◌⊎◌, inl, inr}
 use Rattle.std.specs.List.{All, AllPairs, count_by, Contains}
 use Rattle.std.proofs.lemmas.List.Sums.{sum_by-append}
 use Rattle.std.proofs.lemmas.List.{get_or-map, get_or-take, get_or_default, length-map, map-append, take_more}
@@ -24,7 +24,7 @@ use Rattle.zr_permit.specs.declared.told.Told.TheVariants as told
 use Rattle.zr_permit.specs.Jobs.{job_at, rules_of}
 use Rattle.zr_permit.specs.Keep.{doomed}
 use Rattle.zr_permit.specs.Result.{capped, HasPruned, is_done_destroy, is_failed_destroy}
-use Rattle.zr_permit.specs.Transcript.{Allowed, doomed_in, GoesOn, IsNew, listed, Permits, rows_told, Transcript, Turn}
+use Rattle.zr_permit.specs.Transcript.{Allowed, doomed_in, GoesOn, listed, Permits, Transcript, Turn}
 use Rattle.zr_permit.specs.Turned.{HasTurned, told_of}
 use Rattle.zr_permit.proofs.Listing.{listed-more}
 use Rattle.zr_prune.specs.Pruning.{Pruning}

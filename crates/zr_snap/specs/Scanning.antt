@@ -1,9 +1,7 @@
-use Rattle.std.specs.Prelude.{⊤, ◌≡◌, ℕ, List, [], ◌∷◌}
+use Rattle.std.specs.Prelude.{◌≡◌, List, [], ◌∷◌}
 use Rattle.zr_names.specs.declared.outcome.Outcome.{Outcome}
 use Rattle.zr_names.specs.declared.outcome.Outcome.TheVariants as outcome
 use Rattle.zr_names.specs.declared.unit.Unit.{Unit}
-use Rattle.zr_names.specs.declared.unit.Work.{Work}
-use Rattle.zr_names.specs.declared.unit.Work.TheVariants as work
 use Rattle.zr_world.specs.declared.command.Answer.TheVariants as answer
 use Rattle.zr_world.specs.declared.command.Cmd.TheVariants as cmd
 use Rattle.zr_world.specs.declared.command.Reply.TheVariants as reply

@@ -1,8 +1,8 @@
-use Rattle.std.proofs.Common.{◌≡◌, ◌==◌, ◌&&◌, ◌||◌, ℕ, zero, suc, ◌+◌, ◌<◌, ◌≤◌, ◌/◌, ◌%◌, Bool, true, false, not, List, [], ◌∷◌, ◌++◌, Option, Some, None, length, slice_index, refl, arith, rules, nat_le, nat_lt, length-append, ◌⊎◌, inl, inr, lit≤}
+use Rattle.std.proofs.Common.{◌≡◌, ◌==◌, ◌&&◌, ◌||◌, ℕ, zero, suc, ◌+◌, ◌<◌, ◌≤◌, ◌/◌, ◌%◌, Bool, true, false, not, List, [], ◌∷◌, ◌++◌, Option, Some, None, length, slice_index, refl, arith, rules, nat_lt, length-append, ◌⊎◌, inl, inr, lit≤}
 use Rattle.std.specs.Prelude.{codes, if◌then◌else◌}
 use Rattle.std.proofs.lemmas.Bool.Decides.{nat_tests}
 use Rattle.zr_names.specs.Hex.{hex_digit, hex_text}
-use Rattle.zr_names.specs.Names.{is_alphanumeric, is_name_byte, path_is_bad, slash_is_bad, begins_component, is_dots, token_is_bad, IsName}
+use Rattle.zr_names.specs.Names.{is_name_byte, path_is_bad, slash_is_bad, begins_component, is_dots, token_is_bad, IsName}
 use Rattle.zr_names.specs.declared.names.TheConstants.{PATH_LIMIT, TOKEN_LIMIT}
 use Rattle.zr_names.specs.declared.unit.Guid.{Guid}
 use Rattle.zr_world.specs.declared.pools.Partial.{Partial}

@@ -7,7 +7,6 @@ use Rattle.zr_world.specs.declared.command.Cmd.{Cmd}
 use Rattle.zr_world.specs.declared.command.Cmd.TheVariants as cmd
 use Rattle.zr_world.specs.declared.command.Entry.{Entry}
 use Rattle.zr_world.specs.declared.command.Entry.TheVariants.{Call}
-use Rattle.zr_world.specs.declared.command.Reply.{Reply}
 use Rattle.zr_world.specs.declared.command.Reply.TheVariants as reply
 use Rattle.zr_world.specs.declared.pools.Pools.{Pools}
 use Rattle.zr_world.specs.Effect.{Effect, step, go}

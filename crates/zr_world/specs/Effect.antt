@@ -1,4 +1,4 @@
-use Rattle.std.specs.Prelude.{◌≡◌, ◌==◌, ℕ, Bool, true, false, not, if◌then◌else◌, List, [], ◌∷◌, Option, Some, None, Result, Ok, Err, nat_eq, find, filter, map, length}
+use Rattle.std.specs.Prelude.{◌≡◌, ◌==◌, ℕ, Bool, false, not, if◌then◌else◌, List, [], ◌∷◌, Option, Some, None, Result, Ok, Err, nat_eq, find, filter, map, length}
 use Rattle.std.specs.Cmp.Lexicographic.{pointwise}
 use Rattle.zr_world.specs.declared.effects.ApplyFault.{ApplyFault}
 use Rattle.zr_world.specs.declared.effects.ApplyFault.TheVariants.{Refused, NoMemory}

@@ -16,5 +16,7 @@ pub mod effects;
 pub mod mem;
 pub mod planned;
 pub mod pools;
+#[cfg(test)]
+mod tests;
 pub mod version;
 pub mod zfs;

@@ -1,4 +1,4 @@
-use Rattle.std.proofs.Common.{◌∙◌, ap, subst, sym, [], get_or}
+use Rattle.std.proofs.Common.{◌∙◌, ap, subst, sym, []}
 use Rattle.std.proofs.lemmas.List.{get_or_default}
 use Rattle.zr_world.specs.declared.command.Cmd.{Cmd}
 use Rattle.zr_world.specs.declared.command.Cmd.TheVariants as cmd

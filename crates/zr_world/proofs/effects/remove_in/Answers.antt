@@ -1,5 +1,4 @@
-use Rattle.std.proofs.Common.{ap, ◌∙◌, sym}
-use Rattle.std.proofs.Math.ListN.{set}
+use Rattle.std.proofs.Common.{◌∙◌, sym}
 use Rattle.zr_world.specs.Effect.{without_snap}
 use Rattle.zr_world.proofs.Changes.{changed_at-none, changed_at-position}
 use Rattle.zr_world.proofs.effects.remove_in.Goals as goal

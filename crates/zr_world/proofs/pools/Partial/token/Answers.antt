@@ -1,4 +1,4 @@
-use Rattle.std.proofs.Common.{◌≡◌, ◌∙◌, List, ℕ, subst, sym}
+use Rattle.std.proofs.Common.{◌∙◌, List, ℕ, subst, sym}
 use Rattle.zr_names.specs.Names.{IsName, token_is_bad}
 use Rattle.zr_names.specs.declared.names.TheConstants.{TOKEN_LIMIT}
 use Rattle.zr_world.proofs.Tokens.{token_text-IsName}
