@@ -1,20 +1,18 @@
 use Rattle.std.proofs.Common.{◌≡◌, ◌∙◌, ℕ, zero, suc, ◌+◌, ◌<◌, List, [], ◌∷◌, ◌++◌, Option, Some, None, ap, append-nil, append_assoc, arith, inl, inr, refl, subst, sym, length, map}
-use Rattle.std.specs.List.{All, AllZip, flat_map, fold, range_with_len}
+use Rattle.std.specs.List.{All, AllZip, range_with_len}
 use Rattle.std.proofs.lemmas.List.Elements.{All-append, All-cons, All-head, All-nil}
 use Rattle.std.proofs.lemmas.Grind.{flat_map-append}
 use Rattle.zr_names.specs.declared.outcome.Outcome.{Outcome}
-use Rattle.zr_names.specs.declared.outcome.Outcome.TheVariants as outcome
 use Rattle.zr_names.specs.declared.totals.Totals.{Totals}
 use Rattle.zr_names.specs.declared.unit.Unit.{Unit}
-use Rattle.zr_names.specs.declared.unit.Work.TheVariants as work
 use Rattle.zr_world.specs.declared.command.Entry.{Entry}
 use Rattle.zr_world.specs.Answering.{appended}
 use Rattle.zr_permit.specs.declared.job.JobSet.{JobSet}
 use Rattle.zr_permit.specs.Jobs.{IsOfFile}
-use Rattle.zr_permit.specs.Runs.{HasRun, Ran}
+use Rattle.zr_permit.specs.Runs.{Ran}
 use Rattle.zr_top.specs.Units.{IsPruning}
 use Rattle.zr_top.specs.Attempts.{Attempt, Attempted, entries, IsGood, no_totals, run_entries, tallied, tallied_all}
-use Rattle.zr_top.specs.Due.{Found, due_scans, first_scans, joined, RanDue, RunUpTo, scan_of, ScanRan, ScansRan}
+use Rattle.zr_top.specs.Due.{Found, first_scans, joined, RanDue, RunUpTo, scan_of, ScanRan, ScansRan}
 
 abbrev unit_of : Attempt → Unit
 unit_of a = a.unit

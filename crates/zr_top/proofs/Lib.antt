@@ -1,6 +1,7 @@
 pub mod Scanned
 pub mod Refusing
 pub mod Attempting
+pub mod Books
 pub mod Ending
 pub mod Promises
 pub mod Recording

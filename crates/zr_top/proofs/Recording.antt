@@ -14,6 +14,7 @@ use Rattle.zr_top.specs.Due.{RanDue}
 use Rattle.zr_top.specs.Records.{FirstRan, IsFrontOf, IsNext, Known, RanBytes, RanFile, RanJobs, RanOnce, Told, Unrun, Wrote}
 use Rattle.zr_top.specs.Status.{code_of, is_unrun, Printed, status_of}
 use Rattle.zr_top.specs.Totals.{totals_text}
+use Rattle.zr_top.proofs.Books.{balanced}
 use Rattle.zr_top.proofs.Ending.{first_of, printed-of-runs}
 
 -- the next moment of a clock
@@ -45,6 +46,7 @@ ran-jobs jobs moments (b ∷ others) (n ∷ left) totals wrote_before wrote give
   due = ran.ran.due;
   good = ran.ran.good;
   recorded = ran.ran.recorded;
+  books = balanced ran.ran.attempts;
   status = printed-of-runs ran.ran.attempts totals given ran.ran.totals_are printed;
   printed = λ loud. writes loud ∙ ap (λ text. append_known wrote_before (text ++ 10 ∷ [])) (is ∙ ap totals_text ran.ran.totals_are);
 }

@@ -1,14 +1,13 @@
-use Rattle.std.proofs.Common.{◌≡◌, ◌≢◌, ◌∙◌, ℕ, ◌≤◌, List, [], ◌∷◌, Ok, Err, Option, Some, None, arith, ap, inl, inr, refl, subst, sym, length, lit<}
+use Rattle.std.proofs.Common.{◌≡◌, ◌≢◌, ◌∙◌, ℕ, ◌≤◌, List, [], ◌∷◌, Ok, Err, Option, Some, None, arith, inl, inr, refl, subst, sym, length, lit<}
 use Rattle.std.specs.List.{Contains}
 use Rattle.toml.specs.Data.{Members}
-use Rattle.toml.specs.Parse.{parse_document}
 use Rattle.zr_permit.specs.declared.job.JobSet.{JobSet}
 use Rattle.zr_jobfile.specs.declared.JobFault.{JobFault}
 use Rattle.zr_jobfile.specs.declared.JobFault.TheVariants.{TooManyBytes, NotToml, NotBuilt, NoMemory}
 use Rattle.zr_jobfile.specs.SnapFile.{IsSnapFile, IsText, ReadsJobs}
 use Rattle.zr_top.specs.declared.status.Status.{Status}
 use Rattle.zr_top.specs.declared.status.Status.TheVariants as status
-use Rattle.zr_top.specs.Status.{code_of, is_of_run, IsRefused, Printed, RefusedOrUnread}
+use Rattle.zr_top.specs.Status.{code_of, IsRefused, Printed, RefusedOrUnread}
 
 same-tree : (bytes : List ℕ) (one other : Members) → IsText bytes one → IsText bytes other → other ≡ one
 same-tree bytes one other a b = let e : Some other ≡ Some one = sym b.parsed ∙ a.parsed in cc

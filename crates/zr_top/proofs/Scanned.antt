@@ -1,5 +1,5 @@
-use Rattle.std.proofs.Common.{◌≡◌, ◌∙◌, ℕ, ◌<◌, Option, Some, false, List, [], ◌∷◌, ◌++◌, ap, refl, subst, sym, length, get_or}
-use Rattle.std.specs.List.{All, flat_map, Contains}
+use Rattle.std.proofs.Common.{◌≡◌, ℕ, ◌<◌, Option, Some, false, List, [], ◌∷◌, ◌++◌, refl, subst, sym, length, get_or}
+use Rattle.std.specs.List.{All, flat_map}
 use Rattle.std.proofs.lemmas.List.Elements.{All-cons, All-nil, Contains-get_or}
 use Rattle.zr_names.specs.declared.outcome.Outcome.{Outcome}
 use Rattle.zr_names.specs.declared.outcome.Outcome.TheVariants as outcome

@@ -1,4 +1,4 @@
-use Rattle.std.specs.Prelude.{◌≡◌, ℕ, false, List, [], ◌∷◌, Option, Some, None, All, flat_map, fold, map}
+use Rattle.std.specs.Prelude.{◌≡◌, ℕ, ◌+◌, ◌-◌, ◌^◌, min, false, List, [], ◌∷◌, Option, Some, None, All, flat_map, fold, map}
 use Rattle.zr_names.specs.declared.outcome.Outcome.{Outcome}
 use Rattle.zr_names.specs.declared.outcome.Outcome.TheVariants as outcome
 use Rattle.zr_names.specs.declared.totals.Totals.{Totals}
@@ -75,6 +75,11 @@ no_totals = record {
   garbled = 0;
   nomemory = 0;
 }
+
+-- each of so many units was counted as due, and was done or coalesced
+pub record IsBalanced (totals : Totals) (units : ℕ) : Type 0 where
+  pub due_are : totals.due ≡ min units (2 ^ 64 - 1)
+  pub balanced : totals.due ≡ totals.done + totals.coalesced
 
 -- the totals of some units that were due
 abbrev pub totals_of : List Attempt → Totals

@@ -10,7 +10,7 @@ use Rattle.zr_world.specs.Answering.{appended}
 use Rattle.zr_permit.specs.declared.job.JobSet.{JobSet}
 use Rattle.zr_permit.specs.Transcript.{Transcript}
 use Rattle.zr_snap.specs.Scanning.{Gives}
-use Rattle.zr_top.specs.Attempts.{Attempt, Attempted, EndsWell, entries, IsGood, no_totals, run_entries, tallied_all, totals_of}
+use Rattle.zr_top.specs.Attempts.{Attempt, Attempted, EndsWell, entries, IsGood, run_entries, tallied_all, totals_of}
 
 -- the scan of a job at a moment
 abbrev pub scan_of : ℕ → ℕ → Unit

@@ -1,6 +1,5 @@
-use Rattle.std.specs.Prelude.{⊤, ◌≡◌, ◌⊎◌, ◌+◌, ℕ, Bool, true, false, List, [], ◌∷◌, ◌++◌, Option, Some, None, Ok, Err, All, codes, take}
+use Rattle.std.specs.Prelude.{⊤, ◌≡◌, ◌⊎◌, ◌+◌, ℕ, Bool, true, false, List, [], ◌∷◌, ◌++◌, Option, Some, None, Ok, Err, All, codes, length, take}
 use Rattle.std.specs.Io.KnownBytes.{append_known}
-use Rattle.zr_names.specs.declared.outcome.Outcome.{Outcome}
 use Rattle.zr_names.specs.declared.totals.Totals.{Totals}
 use Rattle.zr_names.specs.Count.{Rose}
 use Rattle.zr_world.specs.Answering.{appended}
@@ -13,7 +12,7 @@ use Rattle.zr_jobfile.specs.declared.JobFault.TheVariants as fault
 use Rattle.zr_jobfile.specs.SnapFile.{ReadsJobs}
 use Rattle.zr_top.specs.declared.status.Status.{Status}
 use Rattle.zr_top.specs.declared.status.Status.TheVariants as status
-use Rattle.zr_top.specs.Attempts.{Attempt, entries, IsGood, totals_of}
+use Rattle.zr_top.specs.Attempts.{Attempt, entries, IsBalanced, IsGood, totals_of}
 use Rattle.zr_top.specs.Due.{IsDue, RanDue}
 use Rattle.zr_top.specs.Status.{is_unrun, Printed, status_of_runs}
 use Rattle.zr_top.specs.Totals.{totals_text}
@@ -81,6 +80,7 @@ pub record RanJobs (jobs : JobSet) (moments : Option (List ℕ)) (before now : L
   pub due : IsDue jobs moment attempts
   pub good : All (IsGood jobs) attempts
   pub recorded : FirstHas before now attempts
+  pub books : IsBalanced (totals_of attempts) (length attempts)
   pub status : Printed (status_of_runs attempts) given
   pub printed : Wrote given wrote_before wrote (totals_text (totals_of attempts))
 

@@ -1,4 +1,3 @@
-use Rattle.std.specs.Prelude.{◌≡◌, ◌<◌, ℕ, List, All, length}
 use Rattle.zr_names.specs.declared.unit.Unit.{Unit}
 use Rattle.zr_permit.specs.declared.job.JobSet.{JobSet}
 use Rattle.zr_permit.specs.Jobs.{IsOfFile}

@@ -1,4 +1,4 @@
-use Rattle.std.proofs.Common.{arith, rules, subst, sym, List, ◌≡◌}
+use Rattle.std.proofs.Common.{arith, rules, subst, List}
 use Rattle.std.specs.List.{All}
 use Rattle.std.proofs.lemmas.List.Elements.{All-rest}
 use Rattle.zr_names.specs.declared.unit.Unit.{Unit}
