@@ -1,4 +1,4 @@
-use Rattle.std.proofs.Common.{◌≡◌, ℕ, ◌+◌, ◌-◌, ◌<◌, ◌≤◌, List, length, get_or, drop, take, subst, ap, ◌∙◌, arith, length-drop}
+use Rattle.std.proofs.Common.{◌≡◌, ℕ, ◌+◌, ◌-◌, ◌<◌, ◌≤◌, List, length, get_or, drop, take, subst, sym, ap, ◌∙◌, arith, length-drop}
 use Rattle.std.proofs.Math.Seq.{take-length}
 use borrow.Author.Count.{below_more}
 use Rattle.std.specs.List.{All, AllPairs}
@@ -41,3 +41,21 @@ PairsBelow-more {X} R xs n x pairs within here later = record { each = at } wher
 
   at : (i j : ℕ) (d : X) → i < n + 1 → i < j → j < length xs → R (get_or xs i d) (get_or xs j d)
   at i j d below = below_more At n (λ k less j d. pairs.each k j d less) reached i below j d
+
+-- where the relation holds of all pairs, each place stands so to all that follow
+pub AllPairs-at : {X : Type 0} (R : X → X → Type 0) (xs : List X) (n : ℕ) (x : X) → AllPairs R xs → n < length xs → x ≡ get_or xs n x → All (R x) (take (length xs - (n + 1)) (drop (n + 1) xs))
+AllPairs-at {X} R xs n x pairs within here = subst (All (R x)) (sym whole) after where
+  rest : List X
+  rest = drop (n + 1) xs
+
+  whole : take (length xs - (n + 1)) rest ≡ rest
+  whole = let count : length xs - (n + 1) ≡ length rest = omega (arith, length-drop (n + 1) xs) in
+      ap (λ k. take k rest) count ∙ take-length rest
+
+  after : All (R x) rest
+  after k d short =
+      let long = length-drop (n + 1) xs in
+      let far : n + 1 + k < length xs = omega (arith, long, short) in
+      let place : get_or xs (n + 1 + k) d ≡ get_or rest k d = sym (get_or-drop (n + 1) xs k d) in
+      let first : get_or xs n d ≡ x = sym (here ∙ get_or_default xs n x d within) in
+      subst (λ (y : X). R y (get_or rest k d)) first (subst (λ (y : X). R (get_or xs n d) y) place (pairs n (n + 1 + k) d (omega arith) far))

@@ -7,7 +7,7 @@ loop-place-init c = PairsBelow-none _ _
 
 pub loop-place-preserved : goal.loop-place-preserved
 loop-place-preserved c =
-    PairsBelow-more _ _ _ _ c.loop-place.invariant c.loop-place-test.true c.index-tags-place.is (c.if-not-differs_from_all.ensures refl)
+    PairsBelow-more _ _ _ _ c.loop-place.invariant c.loop-place-test.true c.index-tags-place.is (c.if-not-differs_from_all.ensures.differs refl)
 
-pub returns : goal.returns
-returns c = λ passed. AllPairs-below _ _ _ c.loop-place-test.false c.loop-place.invariant
+pub returns-clause-differ : goal.returns-clause-differ
+returns-clause-differ c = λ passed. AllPairs-below _ _ _ c.loop-place-test.false c.loop-place.invariant

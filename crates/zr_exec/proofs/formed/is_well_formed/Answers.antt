@@ -1,4 +1,4 @@
-use Rattle.std.proofs.Common.{◌≡◌, true, List, AllPairs, All, subst}
+use Rattle.std.proofs.Common.{◌≡◌, true, List, AllPairs, All, subst, sym}
 use Rattle.zr_world.specs.Pools.{is_below, IsWellFormed, IsWellFormedSet}
 use Rattle.zr_world.specs.declared.pools.Dataset.{Dataset}
 use Rattle.zr_world.specs.declared.pools.Pools.{Pools}
@@ -10,6 +10,11 @@ IsWellFormed-of pools sets same rising each = record {
   each = subst (All (IsWellFormedSet pools.next_txg)) same each;
 }
 
-pub returns-then-are_rising : goal.returns-then-are_rising
-returns-then-are_rising c = λ passed.
-    IsWellFormed-of c.args.pools.now c.as_slice-sets.result.now c.as_slice-sets.ensures (c.are_rising.ensures c.if-are_rising.true) (c.is_each_dataset.ensures passed)
+pub returns-then-are_rising-clause-formed : goal.returns-then-are_rising-clause-formed
+returns-then-are_rising-clause-formed c = λ passed.
+    IsWellFormed-of c.args.pools.now c.as_slice-sets.result.now c.as_slice-sets.ensures (c.are_rising.ensures.rising c.if-are_rising.true) (c.is_each_dataset.ensures.formed passed)
+
+pub returns-then-are_rising-clause-only : goal.returns-then-are_rising-clause-only
+returns-then-are_rising-clause-only c = λ formed.
+    let each : All (IsWellFormedSet c.args.pools.now.next_txg) c.as_slice-sets.result.now = subst (All (IsWellFormedSet c.args.pools.now.next_txg)) (sym c.as_slice-sets.ensures) formed.each in
+    c.is_each_dataset.ensures.only (λ k d lt. (each k d lt).in_order) (λ k d lt. (each k d lt).names_differ) (λ k d lt. (each k d lt).tags_differ) (λ k d lt. (each k d lt).marks_free) (λ k d lt. (each k d lt).made_before)
