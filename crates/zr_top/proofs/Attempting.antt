@@ -170,8 +170,8 @@ scanned-none jobs moment told start = record {
 }
 
 -- the scan of one job more was run
-pub scanned-more : (jobs : JobSet) (moment count : ℕ) (before mid now : Option (List Entry)) (start then' totals : Totals) (ended : Outcome) (found : List (List Unit)) (units : List Unit) → count < length jobs.jobs → ScansRan jobs moment count before mid start then' found → ScanRan jobs (scan_of moment count) mid now ended units → totals ≡ tallied ended then' → ScansRan jobs moment (count + 1) before now start totals (found ++ units ∷ [])
-scanned-more jobs moment count before mid now start then' totals ended found units inside scans scan counted =
+pub scanned-more : (jobs : JobSet) (moment count run : ℕ) (before mid now : Option (List Entry)) (start then' totals : Totals) (ended : Outcome) (found : List (List Unit)) (units : List Unit) → count < length jobs.jobs → ScansRan jobs moment count before mid start then' found → ScanRan jobs (scan_of moment count) run mid now ended units → totals ≡ tallied ended then' → ScansRan jobs moment (count + 1) before now start totals (found ++ units ∷ [])
+scanned-more jobs moment count run before mid now start then' totals ended found units inside scans scan counted =
     let attempt : Attempt = record { unit = scan_of moment count; begun = scan.begun; ended = ended } in
     let good : IsGood jobs attempt = record { of_file = scan-of-file jobs count moment inside; ends_well = scan.ends_well } in
     record {

@@ -94,7 +94,7 @@ finds jobs unit turns kept outcome.NoMemory units gives same = gives
 finds jobs unit turns kept other units gives same = same refl
 
 -- a scan that began and ended was run, and found its units
-pub scan-ran : (jobs jobs' : JobSet) (unit unit' : Unit) (run : ℕ) (before begun now : Option (List Entry)) (turns : Transcript) (ended : Outcome) (units : List Unit) → jobs' ≡ jobs → unit' ≡ unit → begun ≡ appended before (Begin unit run ∷ []) → Legal jobs' unit' turns → ResultOf jobs' unit' turns ended → ((base : Option (List Entry)) → Records base begun [] → RecordsUnit base now jobs' unit' turns ended) → Gives jobs' unit' turns ended units → ScanRan jobs unit before now ended units
+pub scan-ran : (jobs jobs' : JobSet) (unit unit' : Unit) (run : ℕ) (before begun now : Option (List Entry)) (turns : Transcript) (ended : Outcome) (units : List Unit) → jobs' ≡ jobs → unit' ≡ unit → begun ≡ appended before (Begin unit run ∷ []) → Legal jobs' unit' turns → ResultOf jobs' unit' turns ended → ((base : Option (List Entry)) → Records base begun [] → RecordsUnit base now jobs' unit' turns ended) → Gives jobs' unit' turns ended units → ScanRan jobs unit run before now ended units
 scan-ran jobs jobs' unit unit' run before begun now turns ended units same_jobs same_unit begins legal result records gives' =
     let by_jobs : JobSet → Type 0 = λ j. Gives j unit' turns ended units in
     let by_unit : Unit → Type 0 = λ u. Gives jobs u turns ended units in
@@ -103,6 +103,7 @@ scan-ran jobs jobs' unit unit' run before begun now turns ended units same_jobs 
     let ran = ran-with jobs jobs' unit unit' run before begun now turns ended Known same_jobs same_unit begins legal result records gives in
     record {
       begun = Some (run, ran.0.turns);
+      numbered = refl;
       ends_well = (ran.0.legal, ran.0.result);
       recorded = ran.0.recorded;
       finds = finds jobs unit turns ran.0.turns ended units gives ran.1;

@@ -1,4 +1,4 @@
-use Rattle.std.specs.Prelude.{◌≡◌, ◌⊎◌, ℕ, List, [], ◌++◌, Option, Some, None, All, flat_map, length, map}
+use Rattle.std.specs.Prelude.{⊤, ◌≡◌, ◌⊎◌, ℕ, List, [], ◌++◌, Option, Some, None, All, flat_map, length, map}
 use Rattle.std.specs.List.{AllZip, range_with_len}
 use Rattle.zr_names.specs.Count.{Rose}
 use Rattle.zr_names.specs.declared.outcome.Outcome.{Outcome}
@@ -32,9 +32,15 @@ Finds jobs unit (Some begun) ended units = Gives jobs unit begun.1 ended units
 abbrev pub Found : JobSet → Attempt → List Unit → Type 0
 Found jobs attempt units = Finds jobs attempt.unit attempt.begun attempt.ended units
 
--- a scan was run, or could not begin for want of memory, and found these units
-pub record ScanRan (jobs : JobSet) (unit : Unit) (before now : Option (List Entry)) (ended : Outcome) (units : List Unit) : Type 0 where
+-- a run was begun under this number, or was not begun
+abbrev pub IsNumbered : ℕ → Option (ℕ × Transcript) → Type 0
+IsNumbered run None = ⊤
+IsNumbered run (Some begun) = begun.0 ≡ run
+
+-- a scan was run under this number, or could not begin for want of memory, and found these units
+pub record ScanRan (jobs : JobSet) (unit : Unit) (run : ℕ) (before now : Option (List Entry)) (ended : Outcome) (units : List Unit) : Type 0 where
   pub begun : Option (ℕ × Transcript)
+  pub numbered : IsNumbered run begun
   pub ends_well : EndsWell jobs unit ended begun
   pub recorded : now ≡ appended before (run_entries unit begun)
   pub finds : Finds jobs unit begun ended units

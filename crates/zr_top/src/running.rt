@@ -23,7 +23,7 @@ pub fn run_scan<Z: Zfs>(
     z: &mut Z,
 ) -> (Outcome, Vec<Unit>)
     requires { job < length jobs.now.jobs }
-    ensures ran { ScanRan jobs.now (scan_of moment job) (Z.told z.old) (Z.told z.new)
+    ensures ran { ScanRan jobs.now (scan_of moment job) run (Z.told z.old) (Z.told z.new)
         result.0 result.1.items }
     ensures units { All (IsPruning jobs.now) result.1.items }
     ensures later { Z.faults z.old ≤ Z.faults z.new }

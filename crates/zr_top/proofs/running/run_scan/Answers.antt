@@ -19,7 +19,7 @@ returns-in-Ok-clause-ran g c =
     let by_unit : Unit → Type 0 = λ unit. Legal log.jobs unit new.turns in
     let legal = subst by_unit scan.unit (subst by_jobs scan.jobs c.transcript-legal.ensures.legal) in
     let ran = scan-ran c.args.jobs.now log.jobs unit log.unit c.args.run (told c.args.z.now) (told c.in-Ok.g.z.now) (told c.scan-found.new.g.z.now) new.turns ended units c.in-Ok.ensures.jobs c.in-Ok.ensures.unit c.in-Ok.ensures.told legal scan.result scan.records scan.units in
-    let at : g.row.Z.Denot → Type 0 = λ z. ScanRan c.args.jobs.now unit (told c.args.z.now) (told z) ended units in
+    let at : g.row.Z.Denot → Type 0 = λ z. ScanRan c.args.jobs.now unit c.args.run (told c.args.z.now) (told z) ended units in
     subst at (search rules) ran
 
 pub returns-in-Ok-clause-units : goal.returns-in-Ok-clause-units
