@@ -1,0 +1,25 @@
+ghost use Rattle.std.specs.List.{list_any};
+ghost use Rattle.std.specs.Prelude.{◌≡◌, List, None, Some, ℕ, is_some, true};
+ghost use Rattle.zr_names.specs.declared.policy.Initial.{Initial};
+ghost use Rattle.zr_plan.specs.Laws.{GoesOn, IsResumeOf};
+ghost use Rattle.zr_plan.specs.Plan.{can_go_on, is_snap_of, newest, own_version, plan_of};
+ghost use Rattle.zr_plan.specs.declared.target.Target.{Target};
+ghost use Rattle.zr_plan.specs.declared.target.TokenInfo.{TokenInfo};
+ghost use Rattle.zr_world.specs.declared.version.VersionRow.{VersionRow};
+
+/// Where the source has an own version of the target's last snapshot, replication goes on.
+pub fn a_known_last_snapshot_goes_on()
+    ensures { (job : List ℕ) (source : List VersionRow) (target : Target) (initial : Initial)
+        (last : VersionRow) →
+        target.there ≡ true → target.partial ≡ None → newest target.rows ≡ Some last →
+        is_some (own_version job source last.guid) ≡ true → GoesOn (plan_of job source target initial) }
+{}
+
+/// A partial receive that can go on, of a snapshot that the source has, is resumed.
+pub fn a_partial_receive_that_can_go_on_is_resumed()
+    ensures { (job : List ℕ) (source : List VersionRow) (target : Target) (initial : Initial)
+        (partial : TokenInfo) →
+        target.partial ≡ Some partial → can_go_on job source partial.from (newest target.rows) ≡ true →
+        list_any (is_snap_of partial.to) source ≡ true →
+        IsResumeOf partial.to (plan_of job source target initial) }
+{}
