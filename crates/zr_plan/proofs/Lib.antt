@@ -1,1 +1,3 @@
+pub mod CaughtUp
+pub mod Increments
 pub mod Plans
