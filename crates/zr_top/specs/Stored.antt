@@ -9,3 +9,12 @@ is_stored_at path file = pointwise nat_eq file.path path
 -- the bytes of the file at a path
 abbrev pub content_of : List StoredFile → List ℕ → Option (List ℕ)
 content_of files path = option_map (λ (file : StoredFile). file.bytes) (find (is_stored_at path) files)
+
+-- what files in memory show: the files, the numbers of the reads that fail, and the reads, the faults and
+-- the path that failed last so far
+pub record FilesInMemory : Type 0 where
+  pub files : List StoredFile
+  pub failing : List ℕ
+  pub calls : ℕ
+  pub faults : ℕ
+  pub failed : Option (List ℕ)

@@ -4,6 +4,7 @@ ghost use Rattle.zr_names.specs.Count.{Rose};
 ghost use Rattle.zr_top.specs.Stored.{is_stored_at};
 
 use std::alloc::{AllocError, Global};
+use std::marker::Model;
 use zr_names::Bytes;
 
 /// Why a file gave no bytes.
@@ -65,10 +66,35 @@ pub struct MemFiles {
     failed: Option<Bytes>,
 }
 
+impl Model for MemFiles {
+    ghost use Rattle.zr_top.specs.Stored.{FilesInMemory};
+
+    ghost Value = { FilesInMemory };
+
+    ghost view = { λ m. record {
+      files = m.files.items;
+      failing = m.failing.items;
+      calls = m.calls;
+      faults = m.faults;
+      failed = m.failed;
+    } };
+}
+
 impl MemFiles {
+    ghost use Rattle.std.specs.Prelude.{◌≡◌, None};
+    ghost use Rattle.std.specs.Option.{option_copied};
+
     /// Files whose n-th read, counted from 1, fails where `failing` names n, and so does that of a file
     /// that is not there.
-    pub fn new(alloc: Global, files: Vec<StoredFile>, failing: Vec<u64>) -> MemFiles {
+    pub fn new(alloc: Global, files: Vec<StoredFile>, failing: Vec<u64>) -> MemFiles
+        ensures { result ≡ record {
+          files = files.items;
+          failing = failing.items;
+          calls = 0;
+          faults = 0;
+          failed = None;
+        } }
+    {
         MemFiles {
             alloc,
             files,
@@ -80,7 +106,9 @@ impl MemFiles {
     }
 
     /// The path that could not be read last.
-    pub fn failed(&self) -> Option<&Bytes> {
+    pub fn failed(&self) -> Option<&Bytes>
+        ensures { option_copied result ≡ self.now.failed }
+    {
         self.failed.as_ref()
     }
 }
@@ -112,7 +140,7 @@ impl Files for MemFiles {
 
     ghost failed = { λ m. m.failed };
 
-    ghost content = { λ m path. content_of m.files.items path };
+    ghost content = { λ m path. content_of m.files path };
 
     fn read(&mut self, path: &str, limit: usize) -> Result<Vec<u8>, ReadFault> {
         self.calls = self.calls.saturating_add(1);
