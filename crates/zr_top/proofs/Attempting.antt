@@ -106,12 +106,6 @@ run-more jobs all left rest unit run before mid now start then' totals ended up_
       ran = subst at (sym counted) (attempted-then jobs up_to.run (unit ∷ []) before mid now start then' _ up_to.ran (attempted-run jobs unit run mid now then' ended of_file ran));
     }
 
--- all units of some were run
-pub run-all : (jobs : JobSet) (all left : List Unit) (before now : Option (List Entry)) (start totals : Totals) → RunUpTo jobs all left before now start totals → left ≡ [] → Attempted jobs all before now start totals
-run-all jobs all left before now start totals up_to none =
-    let at : List Unit → Type 0 = λ us. Attempted jobs us before now start totals in
-    subst at (sym (append-nil up_to.run) ∙ ap (λ us. up_to.run ++ us) (sym none) ∙ up_to.parts) up_to.ran
-
 -- the units of one scan more were run
 pub run-joined : (jobs : JobSet) (all left rest : List (List Unit)) (units : List Unit) (before mid now : Option (List Entry)) (start then' totals : Totals) → RunUpTo jobs (joined all) (joined left) before mid start then' → left ≡ units ∷ rest → Attempted jobs units mid now then' totals → RunUpTo jobs (joined all) (joined rest) before now start totals
 run-joined jobs all left rest units before mid now start then' totals up_to is ran = record {
@@ -158,17 +152,6 @@ zip-more jobs (a ∷ attempts) [] attempt units each finds = absurd each
 zip-more jobs (a ∷ attempts) (us ∷ found) attempt units each finds =
     (each.0, zip-more jobs attempts found attempt units each.1 finds)
 
--- no scan was run yet
-pub scanned-none : (jobs : JobSet) (moment : ℕ) (told : Option (List Entry)) (start : Totals) → ScansRan jobs moment 0 told told start start []
-scanned-none jobs moment told start = record {
-  attempts = [];
-  units_are = refl;
-  good = All-nil (IsGood jobs);
-  recorded = sym (appended-nil told);
-  totals_are = refl;
-  found_are = tt;
-}
-
 -- the scan of one job more was run
 pub scanned-more : (jobs : JobSet) (moment count run : ℕ) (before mid now : Option (List Entry)) (start then' totals : Totals) (ended : Outcome) (found : List (List Unit)) (units : List Unit) → count < length jobs.jobs → ScansRan jobs moment count before mid start then' found → ScanRan jobs (scan_of moment count) run mid now ended units → totals ≡ tallied ended then' → ScansRan jobs moment (count + 1) before now start totals (found ++ units ∷ [])
 scanned-more jobs moment count run before mid now start then' totals ended found units inside scans scan counted =
@@ -199,14 +182,4 @@ ran-due jobs moment before mid now start then' totals found zeros scans others =
   good = All-append (IsGood jobs) scans.attempts others.attempts scans.good others.good;
   recorded = recorded-then before mid now scans.attempts others.attempts scans.recorded others.recorded;
   totals_are = totals-then start then' totals scans.attempts others.attempts scans.totals_are others.totals_are ∙ ap (tallied_all (scans.attempts ++ others.attempts)) zeros;
-}
-
--- where the clock has ended nothing was due
-pub none-due : (jobs : JobSet) (told : Option (List Entry)) (totals : Totals) → totals ≡ no_totals → RanDue jobs None told told totals
-none-due jobs told totals zeros = record {
-  attempts = [];
-  due = refl;
-  good = All-nil (IsGood jobs);
-  recorded = sym (appended-nil told);
-  totals_are = zeros;
 }

@@ -9,7 +9,7 @@ use Rattle.zr_permit.specs.Result.{is_child_fault, is_out_of_memory}
 use Rattle.zr_top.specs.declared.status.Status.{Status}
 use Rattle.zr_top.specs.declared.status.Status.TheVariants as status
 use Rattle.zr_top.specs.Attempts.{Attempt, no_totals, tallied, tallied_all, totals_of}
-use Rattle.zr_top.specs.Status.{is_conflict, is_garbled, Printed, some_ended, status_of, status_of_runs}
+use Rattle.zr_top.specs.Status.{is_conflict_or_too_long, is_garbled, Printed, some_ended, status_of, status_of_runs}
 
 -- a total is above 0 after some units where it was so before or some unit raised it
 abbrev Shows : (Totals → Bool) → (Outcome → Bool) → Type 0
@@ -51,7 +51,7 @@ shows-fault : Shows (λ t. nat_lt 0 t.faults) is_child_fault
 shows-fault (outcome.ChildFault at) t = plus-shows t.faults 1
 shows-fault other t = stays (nat_lt 0 t.faults)
 
-shows-conflict : Shows (λ t. nat_lt 0 t.conflicts || nat_lt 0 t.toolong) is_conflict
+shows-conflict : Shows (λ t. nat_lt 0 t.conflicts || nat_lt 0 t.toolong) is_conflict_or_too_long
 shows-conflict (outcome.Conflict number) t =
     ap (λ b. b || nat_lt 0 t.toolong) (plus-shows t.conflicts 1) ∙ turned (nat_lt 0 t.conflicts) (nat_lt 0 t.toolong) where
       turned : (a b : Bool) → (a || true) || b ≡ (a || b) || true
@@ -78,7 +78,7 @@ status-of-runs attempts =
     let memory = shows-all (λ t. nat_lt 0 t.nomemory) is_out_of_memory shows-memory attempts no_totals in
     let garbled = shows-all (λ t. nat_lt 0 t.garbled) is_garbled shows-garbled attempts no_totals in
     let fault = shows-all (λ t. nat_lt 0 t.faults) is_child_fault shows-fault attempts no_totals in
-    let conflicts = shows-all (λ t. nat_lt 0 t.conflicts || nat_lt 0 t.toolong) is_conflict shows-conflict attempts no_totals in
+    let conflicts = shows-all (λ t. nat_lt 0 t.conflicts || nat_lt 0 t.toolong) is_conflict_or_too_long shows-conflict attempts no_totals in
     ap (λ b. first_of b (nat_lt 0 t.garbled) (nat_lt 0 t.faults) conflict) memory
     ∙ ap (λ b. first_of (some_ended is_out_of_memory attempts) b (nat_lt 0 t.faults) conflict) garbled
     ∙ ap (λ b. first_of (some_ended is_out_of_memory attempts) (some_ended is_garbled attempts) b conflict) fault

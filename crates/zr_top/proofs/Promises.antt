@@ -13,7 +13,7 @@ use Rattle.zr_top.specs.declared.status.Status.TheVariants as status
 use Rattle.zr_top.specs.Attempts.{Attempt, EndsWell, IsGood}
 use Rattle.zr_top.specs.Promises.{AllFinished, AllHonest, Completed, Destroys, finished_code, is_finished, OfAnyRuns, OfRuns, SomeEnded}
 use Rattle.zr_top.specs.Records.{Known, RanContent, RanFile, Told}
-use Rattle.zr_top.specs.Status.{code_of, is_conflict, is_garbled, is_unrun, Printed, some_ended, status_of_runs}
+use Rattle.zr_top.specs.Status.{code_of, is_conflict_or_too_long, is_garbled, is_unrun, Printed, some_ended, status_of_runs}
 use Rattle.zr_top.proofs.Ending.{first_of}
 
 destroys : (jobs : JobSet) (attempt : Attempt) → IsGood jobs attempt → Destroys jobs attempt.unit attempt.begun
@@ -53,7 +53,7 @@ ran-honest content moments before now wrote_before wrote given (inr ran) =
 abbrev pub cause_of : Status → Outcome → Bool
 cause_of status.Garbled = is_garbled
 cause_of status.ChildFault = is_child_fault
-cause_of status.Conflict = is_conflict
+cause_of status.Conflict = is_conflict_or_too_long
 cause_of other = λ ended. true
 
 -- the statuses that come from runs alone
@@ -74,7 +74,7 @@ caused-ran status.Unreadable caused unrun = cc
 caused-ran status.Unwritable caused unrun = cc
 caused-ran status.OutOfMemory caused unrun = cc
 
-first-cause : (attempts : List Attempt) (memory garbled fault conflict : Bool) → some_ended is_garbled attempts ≡ garbled → some_ended is_child_fault attempts ≡ fault → some_ended is_conflict attempts ≡ conflict → is_caused (first_of memory garbled fault conflict) ≡ true → some_ended (cause_of (first_of memory garbled fault conflict)) attempts ≡ true
+first-cause : (attempts : List Attempt) (memory garbled fault conflict : Bool) → some_ended is_garbled attempts ≡ garbled → some_ended is_child_fault attempts ≡ fault → some_ended is_conflict_or_too_long attempts ≡ conflict → is_caused (first_of memory garbled fault conflict) ≡ true → some_ended (cause_of (first_of memory garbled fault conflict)) attempts ≡ true
 first-cause attempts true garbled fault conflict a b c caused = cc
 first-cause attempts false true fault conflict a b c caused = a
 first-cause attempts false false true conflict a b c caused = b
@@ -132,7 +132,7 @@ Tells attempts given =
     (given ≡ status.OutOfMemory) ⊎ (some_ended is_garbled attempts ≡ true)
     ⊎ (AllFinished attempts × (code_of given ≡ finished_code attempts))
 
-tells-of : (attempts : List Attempt) (given : Status) (memory garbled fault conflict : Bool) → some_ended is_out_of_memory attempts ≡ memory → some_ended is_garbled attempts ≡ garbled → some_ended is_child_fault attempts ≡ fault → some_ended is_conflict attempts ≡ conflict → given ≡ first_of memory garbled fault conflict → (given ≡ status.ChildFault → ⊥) → Tells attempts given
+tells-of : (attempts : List Attempt) (given : Status) (memory garbled fault conflict : Bool) → some_ended is_out_of_memory attempts ≡ memory → some_ended is_garbled attempts ≡ garbled → some_ended is_child_fault attempts ≡ fault → some_ended is_conflict_or_too_long attempts ≡ conflict → given ≡ first_of memory garbled fault conflict → (given ≡ status.ChildFault → ⊥) → Tells attempts given
 tells-of attempts given true garbled fault conflict m g f c is sound = inl is
 tells-of attempts given false true fault conflict m g f c is sound = inr (inl g)
 tells-of attempts given false false true conflict m g f c is sound = absurd (sound is)
@@ -242,3 +242,42 @@ pub at-file : (content : List ℕ → Option (List ℕ)) (named file : List ℕ)
 at-file content named file moments before now wrote_before wrote given same ran =
     let at : List ℕ → Type 0 = λ name. RanFile (content name) moments before now wrote_before wrote given in
     subst at same ran
+
+pub unwritable-code : (given : Status) → code_of given ≡ 8 → given ≡ status.Unwritable
+unwritable-code status.Clean e = cc
+unwritable-code status.Usage e = cc
+unwritable-code status.JobFile e = cc
+unwritable-code status.Conflict e = cc
+unwritable-code status.ChildFault e = cc
+unwritable-code status.Garbled e = cc
+unwritable-code status.Unreadable e = cc
+unwritable-code status.Unwritable e = refl
+unwritable-code status.OutOfMemory e = cc
+
+-- where the usage was to be printed, no child failed and no file was read
+pub usage-caused : (given : Status) → Printed status.Usage given → (code_of given ≡ 5 → ⊥) × (code_of given ≡ 7 → ⊥)
+usage-caused status.Usage printed = ((λ e. cc), λ e. cc)
+usage-caused status.Unwritable printed = ((λ e. cc), λ e. cc)
+usage-caused status.OutOfMemory printed = ((λ e. cc), λ e. cc)
+usage-caused status.Clean (inl is) = cc
+usage-caused status.Clean (inr (inl is)) = cc
+usage-caused status.Clean (inr (inr is)) = cc
+usage-caused status.JobFile (inl is) = cc
+usage-caused status.JobFile (inr (inl is)) = cc
+usage-caused status.JobFile (inr (inr is)) = cc
+usage-caused status.Conflict (inl is) = cc
+usage-caused status.Conflict (inr (inl is)) = cc
+usage-caused status.Conflict (inr (inr is)) = cc
+usage-caused status.ChildFault (inl is) = cc
+usage-caused status.ChildFault (inr (inl is)) = cc
+usage-caused status.ChildFault (inr (inr is)) = cc
+usage-caused status.Garbled (inl is) = cc
+usage-caused status.Garbled (inr (inl is)) = cc
+usage-caused status.Garbled (inr (inr is)) = cc
+usage-caused status.Unreadable (inl is) = cc
+usage-caused status.Unreadable (inr (inl is)) = cc
+usage-caused status.Unreadable (inr (inr is)) = cc
+
+-- words that are no command name no file
+pub no-command : (named : Option (List ℕ)) (file : List ℕ) → named ≡ None → named ≡ Some file → ⊥
+no-command named file none some = let both : None ≡ Some file = sym none ∙ some in cc

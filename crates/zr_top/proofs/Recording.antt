@@ -17,26 +17,8 @@ use Rattle.zr_top.specs.Totals.{totals_text}
 use Rattle.zr_top.proofs.Books.{balanced}
 use Rattle.zr_top.proofs.Ending.{first_of, printed-of-runs}
 
--- the next moment of a clock
-pub next-of : (before after : Option (List ℕ)) (moment : Option ℕ) → Ticks before moment after → IsNext before moment
-next-of None None moment ticks = tt
-next-of None (Some left) moment ticks = absurd ticks
-next-of (Some []) None moment ticks = absurd ticks
-next-of (Some []) (Some left) moment ticks = ticks.0
-next-of (Some (next ∷ later)) None moment ticks = absurd ticks
-next-of (Some (next ∷ later)) (Some left) moment ticks = ticks.0
-
--- `once` was called at a clock's next moment
-pub ran-once : (jobs : JobSet) (moments : Option (List ℕ)) (moment : Option ℕ) (before now : Told) (totals : Option Totals) → IsNext moments moment → IfSome totals (λ t. RanDue jobs moment (entries_of before) (entries_of now) t) → (totals ≡ None → now ≡ before) → RanOnce jobs moments before now totals
-ran-once jobs moments moment before now None next ran same = same refl
-ran-once jobs moments moment before now (Some totals) next ran same = record {
-  moment = moment;
-  next = next;
-  ran = ran;
-}
-
 -- all that was due was attempted with the first runner, and the totals were printed
-pub ran-jobs : (jobs : JobSet) (moments : Option (List ℕ)) (before now : List Told) (totals : Totals) (wrote_before wrote : Known) (given : Status) (line : List ℕ) → FirstRan jobs moments before now (Some totals) → line ≡ totals_text totals → Printed (status_of totals) given → Wrote given wrote_before wrote line → RanJobs jobs moments before now wrote_before wrote given
+pub ran-jobs : (jobs : JobSet) (moments : Option (List ℕ)) (before now : List Told) (totals : Totals) (wrote_before wrote : Known) (given : Status) (line : List ℕ) → FirstRan jobs moments before now (Ok totals) → line ≡ totals_text totals → Printed (status_of totals) given → Wrote given wrote_before wrote line → RanJobs jobs moments before now wrote_before wrote given
 ran-jobs jobs moments [] now totals wrote_before wrote given line ran is printed writes = absurd ran
 ran-jobs jobs moments (b ∷ others) [] totals wrote_before wrote given line ran is printed writes = absurd ran
 ran-jobs jobs moments (b ∷ others) (n ∷ left) totals wrote_before wrote given line ran is printed writes = record {
@@ -55,32 +37,9 @@ silent : true ≡ false → ⊥
 silent e = cc
 
 -- the same, where there was no memory for the line
-pub ran-short : (jobs : JobSet) (moments : Option (List ℕ)) (before now : List Told) (totals : Totals) (wrote_before wrote : Known) → FirstRan jobs moments before now (Some totals) → RanJobs jobs moments before now wrote_before wrote status.OutOfMemory
+pub ran-short : (jobs : JobSet) (moments : Option (List ℕ)) (before now : List Told) (totals : Totals) (wrote_before wrote : Known) → FirstRan jobs moments before now (Ok totals) → RanJobs jobs moments before now wrote_before wrote status.OutOfMemory
 ran-short jobs moments before now totals wrote_before wrote ran =
     ran-jobs jobs moments before now totals wrote_before wrote status.OutOfMemory (totals_text totals) ran refl (inr (inr refl)) (λ loud. absurd (silent loud))
-
-fault-of : (memory garbled fault conflict : Bool) → first_of memory garbled fault conflict ≡ status.ChildFault → fault ≡ true
-fault-of true garbled fault conflict e = cc
-fault-of false true fault conflict e = cc
-fault-of false false true conflict e = refl
-fault-of false false false true e = cc
-fault-of false false false false e = cc
-
--- where a failed child gave the status, one was counted
-pub fault-counted : (totals : Totals) (given : Status) → Printed (status_of totals) given → given ≡ status.ChildFault → 0 < totals.faults
-fault-counted totals given (inl same) is = ltb-true 0 totals.faults (fault-of _ _ _ _ (sym same ∙ is))
-fault-counted totals given (inr (inl same)) is = absurd (unwritable (sym same ∙ is)) where
-  unwritable : status.Unwritable ≡ status.ChildFault → ⊥
-  unwritable e = cc
-fault-counted totals given (inr (inr same)) is = absurd (short (sym same ∙ is)) where
-  short : status.OutOfMemory ≡ status.ChildFault → ⊥
-  short e = cc
-
--- the jobs of a file are few
-pub few-jobs : (bytes : List ℕ) (jobs : JobSet) → ReadsJobs bytes (Ok jobs) → length jobs.jobs < 2 ^ 32
-few-jobs bytes jobs reads =
-    let one : length jobs.jobs ≡ 1 = ap (λ (j : JobSet). length j.jobs) reads.2.jobs_are in
-    omega (arith, one)
 
 -- what was read of a file was run, or nothing was
 pub ran-file : (content : Option (List ℕ)) (read bytes : List ℕ) (moments : Option (List ℕ)) (before now : List Told) (wrote_before wrote : Known) (given : Status) → bytes ≡ read → IsFrontOf content read → Unrun before now given ⊎ RanBytes bytes moments before now wrote_before wrote given → RanFile content moments before now wrote_before wrote given

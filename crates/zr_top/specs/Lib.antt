@@ -1,4 +1,5 @@
 pub mod Attempts
+pub mod Calls
 pub mod Clock
 pub mod Due
 pub mod Promises

@@ -9,7 +9,7 @@ use Rattle.zr_jobfile.specs.SnapFile.{ReadsJobs}
 use Rattle.zr_top.specs.Attempts.{Attempt, IsGood}
 use Rattle.zr_top.specs.Due.{IsDue}
 use Rattle.zr_top.specs.Records.{FirstHas, IsFrontOf, IsNext, Told}
-use Rattle.zr_top.specs.Status.{is_conflict, is_garbled, some_ended}
+use Rattle.zr_top.specs.Status.{is_conflict_or_too_long, is_garbled, some_ended}
 
 -- of a call for the file of this content, by what the first runner tells before and now: these jobs are
 -- those of the file, the record has the runs of these attempts more, and this holds of them
@@ -53,7 +53,7 @@ AllFinished attempts = All (λ (a : Attempt). is_finished a.ended ≡ true) atte
 
 -- the status where all units have finished: 4 exactly where a path was too long
 abbrev pub finished_code : List Attempt → ℕ
-finished_code attempts = if some_ended is_conflict attempts then 4 else 0
+finished_code attempts = if some_ended is_conflict_or_too_long attempts then 4 else 0
 
 -- all that was due was attempted, once and in order; and a listing was garbled, or every unit has finished
 -- and the status is 0 or 4

@@ -1,5 +1,6 @@
-use Rattle.std.specs.Prelude.{⊤, ◌≡◌, ◌⊎◌, ◌+◌, ℕ, Bool, true, false, List, [], ◌∷◌, ◌++◌, Option, Some, None, Ok, Err, All, codes, length, take}
+use Rattle.std.specs.Prelude.{⊤, ◌≡◌, ◌⊎◌, ◌+◌, ℕ, Bool, true, false, List, [], ◌∷◌, ◌++◌, Option, Some, None, Result, Ok, Err, All, codes, length, take}
 use Rattle.std.specs.Io.KnownBytes.{append_known}
+use Rattle.zr_names.specs.declared.outcome.NoMemory.{NoMemory}
 use Rattle.zr_names.specs.declared.totals.Totals.{Totals}
 use Rattle.zr_names.specs.Count.{Rose}
 use Rattle.zr_world.specs.Answering.{appended}
@@ -38,18 +39,18 @@ pub record RanNext (jobs : JobSet) (moments : Option (List ℕ)) (before now : T
   pub ran : RanDue jobs moment (entries_of before) (entries_of now) totals
 
 -- `once` was called with a runner, or for want of memory nothing was begun
-abbrev pub RanOnce : JobSet → Option (List ℕ) → Told → Told → Option Totals → Type 0
-RanOnce jobs moments before now None = now ≡ before
-RanOnce jobs moments before now (Some totals) = RanNext jobs moments before now totals
+abbrev pub RanOnce : JobSet → Option (List ℕ) → Told → Told → Result Totals NoMemory → Type 0
+RanOnce jobs moments before now (Err short) = now ≡ before
+RanOnce jobs moments before now (Ok totals) = RanNext jobs moments before now totals
 
 -- the same, of the first of some runners
 abbrev pub FirstNext : JobSet → Option (List ℕ) → List Told → List Told → Totals → Type 0
 FirstNext jobs moments (before ∷ others) (now ∷ left) totals = RanNext jobs moments before now totals
 FirstNext jobs moments before now totals = ⊥
 
-abbrev pub FirstRan : JobSet → Option (List ℕ) → List Told → List Told → Option Totals → Type 0
-FirstRan jobs moments before now None = now ≡ before
-FirstRan jobs moments before now (Some totals) = FirstNext jobs moments before now totals
+abbrev pub FirstRan : JobSet → Option (List ℕ) → List Told → List Told → Result Totals NoMemory → Type 0
+FirstRan jobs moments before now (Err short) = now ≡ before
+FirstRan jobs moments before now (Ok totals) = FirstNext jobs moments before now totals
 
 -- the count of faults of the first of some runners rose
 abbrev pub FirstRose : List ℕ → List ℕ → Type 0

@@ -40,10 +40,10 @@ is_garbled (outcome.Garbled at line) = true
 is_garbled other = false
 
 -- replication can't go on by itself, or a scan met a path that is too long to work on
-abbrev pub is_conflict : Outcome → Bool
-is_conflict (outcome.Conflict number) = true
-is_conflict (outcome.Scanned found too_long) = nat_lt 0 too_long
-is_conflict other = false
+abbrev pub is_conflict_or_too_long : Outcome → Bool
+is_conflict_or_too_long (outcome.Conflict number) = true
+is_conflict_or_too_long (outcome.Scanned found too_long) = nat_lt 0 too_long
+is_conflict_or_too_long other = false
 
 -- some unit ended so
 abbrev pub some_ended : (Outcome → Bool) → List Attempt → Bool
@@ -59,7 +59,7 @@ status_of_runs attempts =
     then status.Garbled
     else (if some_ended is_child_fault attempts
     then status.ChildFault
-    else (if some_ended is_conflict attempts then status.Conflict else status.Clean)))
+    else (if some_ended is_conflict_or_too_long attempts then status.Conflict else status.Clean)))
 
 -- a line was printed and this is the status, or the output or memory failed
 abbrev pub Printed : Status → Status → Type 0

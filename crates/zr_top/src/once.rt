@@ -1,4 +1,4 @@
-ghost use Rattle.std.specs.Prelude.{◌≡◌, ◌≤◌, ◌<◌, ◌^◌, All, IfErr, IfOk, IfSome, List, None, length};
+ghost use Rattle.std.specs.Prelude.{◌≡◌, ◌≤◌, ◌<◌, ◌^◌, All, IfErr, IfOk, List, length};
 ghost use Rattle.zr_names.specs.Count.{Rose};
 ghost use Rattle.zr_top.specs.Attempts.{Attempted, no_totals};
 ghost use Rattle.zr_top.specs.Due.{FaultsRose, joined, RanDue, ScansRan};
@@ -6,7 +6,7 @@ ghost use Rattle.zr_top.specs.Units.{IsPruning};
 
 use crate::running::{run_prune, run_scan};
 use std::alloc::{AllocError, Global};
-use zr_names::{Moment, Outcome, Rows, Totals, Unit};
+use zr_names::{Moment, NoMemory, Outcome, Rows, Totals, Unit};
 use zr_permit::JobSet;
 use zr_world::Zfs;
 
@@ -100,27 +100,27 @@ fn run_all<Z: Zfs>(
 }
 
 /// Runs all that is due at one moment: the scan of each job, and then the units that the scans found. No
-/// key of such a unit comes twice, so none is coalesced. With no moment nothing is due. `None` where there
-/// is no memory to begin.
+/// key of such a unit comes twice, so none is coalesced. With no moment nothing is due. Where there is no
+/// memory to begin, nothing is run.
 pub fn once<Z: Zfs>(
     alloc: Global,
     jobs: &JobSet,
     moment: Option<Moment>,
     z: &mut Z,
-) -> Option<Totals>
+) -> Result<Totals, NoMemory>
     requires few { length jobs.now.jobs < 2 ^ 32 }
-    ensures ran { IfSome result (λ totals. RanDue jobs.now moment (Z.told z.old) (Z.told z.new) totals) }
-    ensures unbegun { result ≡ None → z.new ≡ z.old }
+    ensures ran { IfOk result (λ totals. RanDue jobs.now moment (Z.told z.old) (Z.told z.new) totals) }
+    ensures unbegun { IfErr result (λ fault. z.new ≡ z.old) }
     ensures later { Z.faults z.old ≤ Z.faults z.new }
-    ensures rose { IfSome result (λ totals. 0 < totals.faults → Rose (Z.faults z.old) (Z.faults z.new)) }
+    ensures rose { IfOk result (λ totals. 0 < totals.faults → Rose (Z.faults z.old) (Z.faults z.new)) }
 {
     let mut tally = Tally::new();
     let Some(moment) = moment else {
-        return Some(tally.totals);
+        return Ok(tally.totals);
     };
     let Ok(found) = scan_all(alloc, jobs, moment, &mut tally, z) else {
-        return None;
+        return Err(NoMemory);
     };
     run_all(alloc, jobs, found, &mut tally, z);
-    Some(tally.totals)
+    Ok(tally.totals)
 }

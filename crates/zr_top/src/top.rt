@@ -1,16 +1,12 @@
-ghost use Rattle.std.specs.Prelude.{◌⊎◌, drop, ◌≡◌, ◌≢◌, ◌≤◌, ◌<◌, ◌+◌, ◌^◌, ℕ, IfSome, List, Ok, Some, None, Contains, [], ◌∷◌, ◌++◌, codes, length, map, take, true, vec_len};
+ghost use Rattle.std.specs.Prelude.{◌⊎◌, drop, ◌≡◌, ◌≢◌, ◌≤◌, ◌<◌, ◌+◌, ◌^◌, ℕ, IfOk, List, Some, None, [], ◌∷◌, ◌++◌, codes, length, map, take, true, vec_len};
 ghost use Rattle.std.specs.String.{string_bytes};
 ghost use Rattle.zr_jobfile.specs.declared.TheConstants.{FILE_LIMIT};
 ghost use Rattle.std.specs.Io.KnownBytes.{append_known};
 ghost use Rattle.zr_pipe.specs.Faults.{Rose};
-ghost use Rattle.zr_top.specs.declared.report.TheConstants.{USAGE};
-ghost use Rattle.zr_jobfile.specs.SnapFile.{ReadsJobs};
-ghost use Rattle.zr_permit.specs.declared.job.JobSet.{JobSet as JobSetValue};
-ghost use Rattle.zr_permit.specs.Result.{is_child_fault};
-ghost use Rattle.zr_top.specs.Promises.{AllHonest, Completed, OfAnyRuns, OfRuns, SomeEnded};
+ghost use Rattle.zr_top.specs.Calls.{call, edges, Keeps};
 ghost use Rattle.zr_top.specs.Records.{FirstRan, FirstRose, RefusalPrinted, Wrote, RanBytes, RanFile, RanJobs, RanOnce, Unrun};
 ghost use Rattle.zr_top.specs.declared.status.Status.{Status};
-ghost use Rattle.zr_top.specs.Status.{code_of, is_conflict, is_garbled, is_of_run, IsRefused, Printed, RefusedOrUnread};
+ghost use Rattle.zr_top.specs.Status.{is_of_run, IsRefused, Printed, RefusedOrUnread};
 ghost use Rattle.zr_top.specs.Words.{file_of};
 
 use crate::clock::Clock;
@@ -25,7 +21,7 @@ use std::sync::Wait;
 use std::thread::Threads;
 use zr_exec::{CliZfs, Spawn};
 use zr_jobfile::{FILE_LIMIT, read_jobs};
-use zr_names::Totals;
+use zr_names::{NoMemory, Totals};
 use zr_permit::JobSet;
 use zr_pipe::Sink;
 
@@ -35,18 +31,20 @@ fn once_with<R: Spawn, C: Clock + Drop>(
     jobs: &JobSet,
     child: R,
     mut clock: C,
-) -> (Option<Totals>, R)
+) -> (Result<Totals, NoMemory>, R)
     requires few { length jobs.now.jobs < 2 ^ 32 }
     ensures ran { RanOnce jobs.now (C.moments clock) (R.told child) (R.told result.1) result.0 }
-    ensures rose { IfSome result.0 (λ totals. 0 < totals.faults → Rose (R.faults child) (R.faults result.1)) }
+    ensures rose { IfOk result.0 (λ totals. 0 < totals.faults → Rose (R.faults child) (R.faults result.1)) }
 {
     let Ok(program) = String::from_str(alloc, "zfs") else {
-        return (None, child);
+        return (Err(NoMemory), child);
     };
     let moment = clock.tick();
     let mut zfs = CliZfs::new(child, program);
-    let totals = once(alloc, jobs, moment, &mut zfs);
-    (totals, zfs.spawn())
+    match once(alloc, jobs, moment, &mut zfs) {
+        Ok(totals) => (Ok(totals), zfs.spawn()),
+        Err(fault) => (Err(fault), zfs.spawn()),
+    }
 }
 
 /// Runs `once` with the first of the runners, which is put back in its place.
@@ -55,13 +53,13 @@ fn once_with_first<R: Spawn + Drop, C: Clock + Drop>(
     jobs: &JobSet,
     children: &mut Vec<R>,
     clock: C,
-) -> Option<Totals>
+) -> Result<Totals, NoMemory>
     requires some { 0 < vec_len children.old }
     requires few { length jobs.now.jobs < 2 ^ 32 }
     ensures len { vec_len children.new ≡ vec_len children.old }
     ensures first { FirstRan jobs.now (C.moments clock) (map (λ r. R.told r) children.old.items)
         (map (λ r. R.told r) children.new.items) result }
-    ensures rose { IfSome result (λ totals. 0 < totals.faults →
+    ensures rose { IfOk result (λ totals. 0 < totals.faults →
         FirstRose (map (λ r. R.faults r) children.old.items) (map (λ r. R.faults r) children.new.items)) }
     ensures others { drop 1 children.new.items ≡ drop 1 children.old.items }
 {
@@ -94,7 +92,7 @@ fn run_jobs<R: Spawn + Drop, C: Clock + Drop, S: Sink>(
     ensures others { drop 1 children.new.items ≡ drop 1 children.old.items }
     ensures unwritable { result ≡ Status.Unwritable → Rose (S.faults out.old) (S.faults out.new) }
 {
-    let Some(totals) = once_with_first(alloc, jobs, children, clock) else {
+    let Ok(totals) = once_with_first(alloc, jobs, children, clock) else {
         return Status::OutOfMemory;
     };
     match totals_line(alloc, &totals) {
@@ -206,70 +204,13 @@ where
     requires some { 0 < vec_len children.old }
     requires few { vec_len children.old ≤ 16 }
     ensures runners { vec_len children.new ≡ vec_len children.old }
-
-    // The words: status 2 only where they are no command, and then nothing but a failing output.
-    ensures usage_only { result ≡ 2 → file_of (map string_bytes words.now) ≡ None }
-    ensures usage { file_of (map string_bytes words.now) ≡ None → Contains (2 ∷ 8 ∷ 9 ∷ []) result }
-
-    // The job file: status 3 only where its bytes are refused, and then nothing but a failing read or
-    // output.
-    ensures refused_only { result ≡ 3 → (file whole : List ℕ) →
-        file_of (map string_bytes words.now) ≡ Some file → F.content files.old file ≡ Some whole →
-        IsRefused (take (FILE_LIMIT + 1) whole) }
-    ensures refused { (file whole : List ℕ) →
-        file_of (map string_bytes words.now) ≡ Some file → F.content files.old file ≡ Some whole →
-        IsRefused (take (FILE_LIMIT + 1) whole) → Contains (3 ∷ 7 ∷ 8 ∷ 9 ∷ []) result }
-
-    // The record: the first runner has that of legal runs of the file's units more, and the status is that
-    // of their outcomes, where the output does not fail; the other runners are as they were.
-    ensures ran { (file : List ℕ) → file_of (map string_bytes words.now) ≡ Some file →
-        (given : Status) × (result ≡ code_of given) × RanFile (F.content files.old file) (C.moments clock)
-        (map (λ r. R.told r) children.old.items) (map (λ r. R.told r) children.new.items)
-        (S.written out.old) (S.written out.new) given }
-    ensures unrun { file_of (map string_bytes words.now) ≡ None → children.new.items ≡ children.old.items }
     ensures others { drop 1 children.new.items ≡ drop 1 children.old.items }
-
-    // Honest destruction: what is destroyed stood in a listing of its unit with no holds, kept by no rule.
-    ensures honest { (file : List ℕ) → file_of (map string_bytes words.now) ≡ Some file →
-        OfAnyRuns (F.content files.old file) (map (λ r. R.told r) children.old.items)
-        (map (λ r. R.told r) children.new.items) AllHonest }
-
-    // The causes of the statuses 4, 5 and 6: how a run ended; 5 also only where the count of the first
-    // runner's faults rose in this call.
-    ensures garbled { result ≡ 6 → (file : List ℕ) → file_of (map string_bytes words.now) ≡ Some file →
-        OfRuns (F.content files.old file) (map (λ r. R.told r) children.old.items)
-        (map (λ r. R.told r) children.new.items) (SomeEnded is_garbled) }
-    ensures failed { result ≡ 5 → (file : List ℕ) → file_of (map string_bytes words.now) ≡ Some file →
-        OfRuns (F.content files.old file) (map (λ r. R.told r) children.old.items)
-        (map (λ r. R.told r) children.new.items) (SomeEnded is_child_fault) }
-    ensures failed_rose { result ≡ 5 →
-        FirstRose (map (λ r. R.faults r) children.old.items) (map (λ r. R.faults r) children.new.items) }
-    ensures too_long { result ≡ 4 → (file : List ℕ) → file_of (map string_bytes words.now) ≡ Some file →
-        OfRuns (F.content files.old file) (map (λ r. R.told r) children.old.items)
-        (map (λ r. R.told r) children.new.items) (SomeEnded is_conflict) }
-
-    // Completeness: with an accepted file and no fault, all that was due was done, or memory was wanting.
-    ensures complete { (file whole : List ℕ) (jobs : JobSetValue) →
-        file_of (map string_bytes words.now) ≡ Some file → F.content files.old file ≡ Some whole →
-        ReadsJobs (take (FILE_LIMIT + 1) whole) (Ok jobs) →
-        ¬ Rose (F.faults files.old) (F.faults files.new) → ¬ Rose (S.faults out.old) (S.faults out.new) →
-        ¬ FirstRose (map (λ r. R.faults r) children.old.items) (map (λ r. R.faults r) children.new.items) →
-        (result ≡ 9) ⊎ OfRuns (F.content files.old file) (map (λ r. R.told r) children.old.items)
-        (map (λ r. R.told r) children.new.items) (Completed (C.moments clock) result) }
-
-    // The output: one line is all that is printed; that of the totals is part of `ran`.
-    ensures usage_printed { result ≡ 2 →
-        S.written out.new ≡ append_known (S.written out.old) (USAGE.now ++ 10 ∷ []) }
-    ensures refusal_printed { result ≡ 3 → (file whole : List ℕ) →
-        file_of (map string_bytes words.now) ≡ Some file → F.content files.old file ≡ Some whole →
-        RefusalPrinted (take (FILE_LIMIT + 1) whole) (S.written out.old) (S.written out.new) }
-    ensures unread_printed { result ≡ 7 → (file : List ℕ) → file_of (map string_bytes words.now) ≡ Some file →
-        S.written out.new ≡ append_known (S.written out.old) (codes "cannot read " ++ file ++ 10 ∷ []) }
-
-    // The file and the output: 7 and 8 only where the count of their faults rose in this call.
-    ensures unreadable { result ≡ 7 → Rose (F.faults files.old) (F.faults files.new) ×
-        (file_of (map string_bytes words.now) ≡ F.failed files.new) }
-    ensures unwritable { result ≡ 8 → Rose (S.faults out.old) (S.faults out.new) }
+    ensures unrun { file_of (map string_bytes words.now) ≡ None → children.new.items ≡ children.old.items }
+    ensures kept { Keeps (call (map string_bytes words.now) (F.content files.old) (C.moments clock)
+        (edges (F.faults files.old) (F.failed files.old) (map (λ r. R.told r) children.old.items)
+        (map (λ r. R.faults r) children.old.items) (S.written out.old) (S.faults out.old))
+        (edges (F.faults files.new) (F.failed files.new) (map (λ r. R.told r) children.new.items)
+        (map (λ r. R.faults r) children.new.items) (S.written out.new) (S.faults out.new)) result) }
 {
     match once_file(words) {
         Some(file) => run_named(alloc, file, files, children, clock, out).code(),

@@ -1,87 +1,82 @@
-use Rattle.std.proofs.Common.{◌∙◌, ◌∷◌, ◌++◌, [], ℕ, ap, refl, subst, sym}
+use Rattle.std.proofs.Common.{◌≡◌, ◌∙◌, ◌∷◌, ◌++◌, [], ℕ, List, None, Some, ap, refl, subst, sym}
 use Rattle.std.specs.Io.KnownBytes.{append_known}
 use Rattle.std.specs.List.{Contains}
 use Rattle.std.specs.Prelude.{codes}
 use Rattle.zr_top.specs.Records.{is_silent}
 use Rattle.zr_top.specs.declared.status.Status.TheVariants as status
-use Rattle.zr_top.proofs.Promises.{at-file, conflict-code, fault-code, garbled-code, ran-cause, ran-complete, ran-honest, unread-code, usage-code}
+use Rattle.zr_top.proofs.Promises.{at-file, conflict-code, fault-code, garbled-code, no-command, ran-cause, ran-complete, ran-honest, unread-code, unwritable-code, usage-caused, usage-code}
 use Rattle.zr_top.proofs.Refusing.{job_file-code, read-not-refused, refused-codes, same-file}
 use Rattle.zr_top.proofs.Recording.{ran-named, usage-codes}
 use Rattle.zr_top.proofs.top.zrepl.Goals as goal
 
-pub returns-in-Some-clause-refused_only : goal.returns-in-Some-clause-refused_only
-returns-in-Some-clause-refused_only g c = λ three file whole named there.
-    let same = same-file _ _ file c.in-Some.ensures named in
-    let is = job_file-code c.run_named.result (sym c.code.ensures ∙ three) in
-    c.run_named.ensures.refused_only is whole (ap (g.F.Files.content c.args.files.now) same ∙ there)
-
-pub returns-in-Some-clause-refused : goal.returns-in-Some-clause-refused
-returns-in-Some-clause-refused g c = λ file whole named there refused.
-    let same = same-file _ _ file c.in-Some.ensures named in
-    let codes = refused-codes c.run_named.result (c.run_named.ensures.refused whole (ap (g.F.Files.content c.args.files.now) same ∙ there) refused) in
-    let among : ℕ → Type 0 = λ code. Contains (3 ∷ 7 ∷ 8 ∷ 9 ∷ []) code in
-    subst among (sym c.code.ensures) codes
-
-pub returns-in-Some-clause-ran : goal.returns-in-Some-clause-ran
-returns-in-Some-clause-ran g c = λ file named.
-    ran-named (g.F.Files.content c.args.files.now) _ file _ _ _ _ _ _ _ (same-file _ _ file c.in-Some.ensures named) c.code.ensures c.run_named.ensures.ran
-
-pub returns-in-None-clause-usage : goal.returns-in-None-clause-usage
-returns-in-None-clause-usage g c = λ none.
-    let among : ℕ → Type 0 = λ code. Contains (2 ∷ 8 ∷ 9 ∷ []) code in
-    subst among (sym c.code-in-None.ensures) (usage-codes _ c.print.ensures.printed)
-
-pub returns-in-Some-clause-honest : goal.returns-in-Some-clause-honest
-returns-in-Some-clause-honest g c = λ file named.
-    let ran = at-file (g.F.Files.content c.args.files.now) _ file _ _ _ _ _ _ (same-file _ _ file c.in-Some.ensures named) c.run_named.ensures.ran in
-    ran-honest _ _ _ _ _ _ _ ran
-
-pub returns-in-Some-clause-garbled : goal.returns-in-Some-clause-garbled
-returns-in-Some-clause-garbled g c = λ six file named.
-    let ran = at-file (g.F.Files.content c.args.files.now) _ file _ _ _ _ _ _ (same-file _ _ file c.in-Some.ensures named) c.run_named.ensures.ran in
-    ran-cause _ _ _ _ _ _ _ status.Garbled ran (garbled-code _ (sym c.code.ensures ∙ six)) refl
-
-pub returns-in-Some-clause-failed : goal.returns-in-Some-clause-failed
-returns-in-Some-clause-failed g c = λ five file named.
-    let ran = at-file (g.F.Files.content c.args.files.now) _ file _ _ _ _ _ _ (same-file _ _ file c.in-Some.ensures named) c.run_named.ensures.ran in
-    ran-cause _ _ _ _ _ _ _ status.ChildFault ran (fault-code _ (sym c.code.ensures ∙ five)) refl
-
-pub returns-in-Some-clause-failed_rose : goal.returns-in-Some-clause-failed_rose
-returns-in-Some-clause-failed_rose g c = λ five.
-    c.run_named.ensures.failed (fault-code _ (sym c.code.ensures ∙ five))
-
-pub returns-in-Some-clause-too_long : goal.returns-in-Some-clause-too_long
-returns-in-Some-clause-too_long g c = λ four file named.
-    let ran = at-file (g.F.Files.content c.args.files.now) _ file _ _ _ _ _ _ (same-file _ _ file c.in-Some.ensures named) c.run_named.ensures.ran in
-    ran-cause _ _ _ _ _ _ _ status.Conflict ran (conflict-code _ (sym c.code.ensures ∙ four)) refl
-
-pub returns-in-Some-clause-complete : goal.returns-in-Some-clause-complete
-returns-in-Some-clause-complete g c = λ file whole jobs named there reads files_sound out_sound children_sound.
+pub returns-in-Some-clause-kept : goal.returns-in-Some-clause-kept
+returns-in-Some-clause-kept g c =
     let content = g.F.Files.content c.args.files.now in
-    let same = same-file _ _ file c.in-Some.ensures named in
-    let ran = at-file content _ file _ _ _ _ _ _ same c.run_named.ensures.ran in
-    ran-complete _ _ _ _ _ _ _ _ c.code.ensures ran (record {
-      no_usage = c.run_named.ensures.no_usage;
-      accepted = λ is. read-not-refused _ jobs reads (c.run_named.ensures.refused_only is whole (ap content same ∙ there));
-      readable = λ is. files_sound (c.run_named.ensures.unreadable is).0;
-      writable = λ is. out_sound (c.run_named.ensures.unwritable is);
-      no_fault = λ is. children_sound (c.run_named.ensures.failed is);
-    })
+    let run = c.run_named.ensures in
+    record {
+      usage_only = λ two. absurd (run.no_usage (usage-code _ (sym c.code.ensures ∙ two)));
+      usage = λ none. absurd (no-command _ _ none (sym c.in-Some.ensures));
+      refused_only = λ three file whole finds.
+          run.refused_only (job_file-code c.run_named.result (sym c.code.ensures ∙ three)) whole
+          (ap content (same-file _ _ file c.in-Some.ensures finds.named) ∙ finds.there);
+      refused = λ file whole finds refused.
+          let codes = refused-codes c.run_named.result (run.refused whole (ap content (same-file _ _ file c.in-Some.ensures finds.named) ∙ finds.there) refused) in
+          let among : ℕ → Type 0 = λ code. Contains (3 ∷ 7 ∷ 8 ∷ 9 ∷ []) code in
+          subst among (sym c.code.ensures) codes;
+      ran = λ file named.
+          ran-named content _ file _ _ _ _ _ _ _ (same-file _ _ file c.in-Some.ensures named) c.code.ensures run.ran;
+      honest = λ file named.
+          ran-honest _ _ _ _ _ _ _ (at-file content _ file _ _ _ _ _ _ (same-file _ _ file c.in-Some.ensures named) run.ran);
+      garbled = λ six file named.
+          ran-cause _ _ _ _ _ _ _ status.Garbled (at-file content _ file _ _ _ _ _ _ (same-file _ _ file c.in-Some.ensures named) run.ran) (garbled-code _ (sym c.code.ensures ∙ six)) refl;
+      failed = λ five file named.
+          ran-cause _ _ _ _ _ _ _ status.ChildFault (at-file content _ file _ _ _ _ _ _ (same-file _ _ file c.in-Some.ensures named) run.ran) (fault-code _ (sym c.code.ensures ∙ five)) refl;
+      failed_rose = λ five. run.failed (fault-code _ (sym c.code.ensures ∙ five));
+      too_long = λ four file named.
+          ran-cause _ _ _ _ _ _ _ status.Conflict (at-file content _ file _ _ _ _ _ _ (same-file _ _ file c.in-Some.ensures named) run.ran) (conflict-code _ (sym c.code.ensures ∙ four)) refl;
+      complete = λ file whole jobs finds reads sound.
+          let at = same-file _ _ file c.in-Some.ensures finds.named in
+          ran-complete _ _ _ _ _ _ _ _ c.code.ensures (at-file content _ file _ _ _ _ _ _ at run.ran) (record {
+            no_usage = run.no_usage;
+            accepted = λ is. read-not-refused _ jobs reads (run.refused_only is whole (ap content at ∙ finds.there));
+            readable = λ is. sound.files (run.unreadable is).0;
+            writable = λ is. sound.output (run.unwritable is);
+            no_fault = λ is. sound.children (run.failed is);
+          });
+      usage_printed = λ two. absurd (run.no_usage (usage-code _ (sym c.code.ensures ∙ two)));
+      refusal_printed = λ three file whole finds.
+          run.refusal_printed (job_file-code c.run_named.result (sym c.code.ensures ∙ three)) whole
+          (ap content (same-file _ _ file c.in-Some.ensures finds.named) ∙ finds.there);
+      unread_printed = λ seven file named.
+          run.unread_printed (unread-code c.run_named.result (sym c.code.ensures ∙ seven))
+          ∙ ap (λ name. append_known (g.S.Sink.written c.args.out.now) (codes "cannot read " ++ name ++ 10 ∷ [])) (same-file _ _ file c.in-Some.ensures named);
+      unreadable = λ seven.
+          let failed = run.unreadable (unread-code _ (sym c.code.ensures ∙ seven)) in
+          (failed.0, sym c.in-Some.ensures ∙ sym failed.1);
+      unwritable = λ eight. run.unwritable (unwritable-code _ (sym c.code.ensures ∙ eight));
+    }
 
-pub returns-in-Some-clause-refusal_printed : goal.returns-in-Some-clause-refusal_printed
-returns-in-Some-clause-refusal_printed g c = λ three file whole named there.
-    let same = same-file _ _ file c.in-Some.ensures named in
-    let is = job_file-code c.run_named.result (sym c.code.ensures ∙ three) in
-    c.run_named.ensures.refusal_printed is whole (ap (g.F.Files.content c.args.files.now) same ∙ there)
-
-pub returns-in-Some-clause-unread_printed : goal.returns-in-Some-clause-unread_printed
-returns-in-Some-clause-unread_printed g c = λ seven file named.
-    let same = same-file _ _ file c.in-Some.ensures named in
-    let is = unread-code c.run_named.result (sym c.code.ensures ∙ seven) in
-    c.run_named.ensures.unread_printed is
-    ∙ ap (λ name. append_known (g.S.Sink.written c.args.out.now) (codes "cannot read " ++ name ++ 10 ∷ [])) same
-
-pub returns-in-None-clause-usage_printed : goal.returns-in-None-clause-usage_printed
-returns-in-None-clause-usage_printed g c = λ two.
-    let is = usage-code c.print.result (sym c.code-in-None.ensures ∙ two) in
-    c.print.ensures.wrote (ap is_silent is)
+pub returns-in-None-clause-kept : goal.returns-in-None-clause-kept
+returns-in-None-clause-kept g c =
+    let none = sym c.in-None.ensures in
+    let caused = usage-caused c.print.result c.print.ensures.printed in
+    record {
+      usage_only = λ two. none;
+      usage = λ no_file.
+          let among : ℕ → Type 0 = λ code. Contains (2 ∷ 8 ∷ 9 ∷ []) code in
+          subst among (sym c.code-in-None.ensures) (usage-codes _ c.print.ensures.printed);
+      refused_only = λ three file whole finds. absurd (no-command _ file none finds.named);
+      refused = λ file whole finds refused. absurd (no-command _ file none finds.named);
+      ran = λ file named. absurd (no-command _ file none named);
+      honest = λ file named. absurd (no-command _ file none named);
+      garbled = λ six file named. absurd (no-command _ file none named);
+      failed = λ five file named. absurd (no-command _ file none named);
+      failed_rose = λ five. absurd (caused.0 (sym c.code-in-None.ensures ∙ five));
+      too_long = λ four file named. absurd (no-command _ file none named);
+      complete = λ file whole jobs finds reads sound. absurd (no-command _ file none finds.named);
+      usage_printed = λ two. c.print.ensures.wrote (ap is_silent (usage-code c.print.result (sym c.code-in-None.ensures ∙ two)));
+      refusal_printed = λ three file whole finds. absurd (no-command _ file none finds.named);
+      unread_printed = λ seven file named. absurd (no-command _ file none named);
+      unreadable = λ seven. absurd (caused.1 (sym c.code-in-None.ensures ∙ seven));
+      unwritable = λ eight. c.print.ensures.cause (unwritable-code c.print.result (sym c.code-in-None.ensures ∙ eight));
+    }
