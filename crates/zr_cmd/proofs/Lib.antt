@@ -1,5 +1,6 @@
 pub mod Texts
+pub mod Cut
+pub mod Fronts
+pub mod Spelling
 pub mod Longest
-pub mod Full
-pub mod Destroying
-pub mod Unique
+pub mod Calls

@@ -1,251 +1,202 @@
-use Rattle.std.proofs.Common.{◌≡◌, ℕ, zero, suc, ◌+◌, ◌<◌, ◌≤◌, false, List, [], ◌∷◌, ◌++◌, length, get_or, take, drop, refl, arith, ap, ◌∙◌, sym, subst, ◌⊎◌, inl, inr, Err, length-append, max}
-use Rattle.std.specs.Prelude.{codes}
-use Rattle.std.proofs.lemmas.List.{take_at, get_or-take, take-append-le, take-append-drop, take-take, take_all, take_more, append-nil, append_assoc, get_or_at, length-take-le}
-use Rattle.zr_names.specs.Names.{IsName, path_is_bad, name_is_bad}
-use Rattle.zr_names.specs.declared.names.TheConstants.{PATH_LIMIT, NAME_LIMIT}
-use Rattle.zr_world.specs.declared.command.Cmd.{Cmd}
-use Rattle.zr_world.specs.declared.command.Cmd.TheVariants as cmd
-use Rattle.zr_cmd.specs.Words.{sets_words, versions_words, words_of, IsNamed, Spells, Begins, IsUnknown, Reads}
-use Rattle.zr_cmd.specs.Steps.{IsCommon}
-use Rattle.zr_cmd.specs.declared.argv.ArgvFault.TheVariants.{BadWord}
+use Rattle.std.proofs.Common.{◌≡◌, ℕ, zero, suc, ◌+◌, ◌<◌, ◌≤◌, List, [], ◌∷◌, ◌++◌, length, get_or, take, refl, arith, ap, ◌∙◌, sym, subst, ◌⊎◌, inl, inr, Err, max}
+use Rattle.std.proofs.lemmas.List.{append-nil, take_all}
+use Rattle.zr_cmd.specs.Forms.{fixed, Pattern, patterns_of, read_as}
+use Rattle.zr_cmd.specs.Steps.{FitsAt, IsFront}
+use Rattle.zr_cmd.specs.Words.{Begins, IsNamed, IsUnknown, Reads, Spells, words_of}
+use Rattle.zr_cmd.specs.declared.argv.ArgvFault.TheVariants.{UnknownCommand, BadWord}
+use Rattle.zr_cmd.specs.declared.forms.Call.{Call}
+use Rattle.zr_cmd.specs.declared.forms.Form.{Form}
+use Rattle.zr_cmd.specs.declared.forms.Form.TheVariants as form
+use Rattle.zr_cmd.proofs.Fronts.{Along, Front, front-along, along-front, ending}
+use Rattle.zr_cmd.proofs.Spelling.{form_of, chained, written, all-written, spelled}
 
-pub sets-length : length sets_words ≡ 7
-unfolding sets_words
-sets-length = refl
+-- a front of a form begins the words of some call
+pub begins : (f : Form) (words : List (List ℕ)) (k : ℕ) → Front (patterns_of f) words k → Begins (take k words)
+begins f words k front =
+    let b = get_or words 0 [] in
+    let e = ending (patterns_of f) (fixed b) [] b (take k words) (chained f) refl (front-along (patterns_of f) words k front) in
+    let is = spelled f b (take k words ++ e.more) e.along e.count in
+    record { given = read_as f (take k words ++ e.more); more = e.more; named = is.named; longer = sym is.same }
 
-pub versions-length : length versions_words ≡ 11
-unfolding versions_words
-versions-length = refl
+-- so many words are a front of some form
+pub record Reached (words : List (List ℕ)) (k : ℕ) : Type 0 where
+  pub form : Form
+  pub front : Front (patterns_of form) words k
 
-pub sets-first : take 1 sets_words ≡ codes "list" ∷ []
-unfolding sets_words
-sets-first = refl
+-- what begins the words of some call is a front of its form
+pub reached : (words : List (List ℕ)) (k : ℕ) → k ≤ length words → Begins (take k words) → Reached words k
+reached words k within b =
+    let b0 = get_or words 0 [] in
+    record {
+      form = form_of b.given;
+      front = along-front (patterns_of (form_of b.given)) words b.more k within
+          (subst (λ (l : List (List ℕ)). Along (patterns_of (form_of b.given)) b0 l) b.longer (written b.given b0 b.named));
+    }
 
-pub versions-first : take 1 versions_words ≡ codes "list" ∷ []
-unfolding versions_words
-versions-first = refl
+-- all words are as the form has them
+pub record IsWhole (f : Form) (words : List (List ℕ)) : Type 0 where
+  pub front : Front (patterns_of f) words (length words)
+  pub all : length words ≡ length (patterns_of f)
 
-pub other-words : codes "destroy" ∷ [] ≡ codes "list" ∷ [] → ⊥
-other-words e = let lengths : ◌≡◌ {A = ℕ} 7 4 = ap (λ (l : List (List ℕ)). length (get_or l 0 [])) e in omega arith
+pub whole-spelled : (f : Form) (words : List (List ℕ)) → IsWhole f words → Spells words (read_as f words)
+whole-spelled f words w =
+    spelled f (get_or words 0 []) words (subst (λ (l : List (List ℕ)). Along (patterns_of f) (get_or words 0 []) l) (take_all (length words) words (omega arith)) (front-along (patterns_of f) words (length words) w.front)) w.all
 
-first-place : (place : ℕ) → place < 1 → path_is_bad (97 ∷ []) place ≡ false
-first-place zero inside = refl
-first-place (suc k) inside = absurd (omega arith)
+spelled-whole : (words : List (List ℕ)) (c : Call) → Spells words c → IsWhole (form_of c) words
+spelled-whole words c is =
+    let b0 = get_or words 0 [] in
+    let along : Along (patterns_of (form_of c)) b0 (words_of c) = written c b0 is.named in
+    record {
+      front = along-front (patterns_of (form_of c)) words [] (length words) (omega arith)
+          (subst (λ (l : List (List ℕ)). Along (patterns_of (form_of c)) b0 l) (sym is.same ∙ sym (append-nil words ∙ refl) ∙ ap (λ l. l ++ []) (sym (take_all (length words) words (omega arith)))) along);
+      all = ap length is.same ∙ all-written c is.named;
+    }
 
-first-name : (place : ℕ) → place < 1 → name_is_bad (97 ∷ []) place ≡ false
-first-name zero inside = refl
-first-name (suc k) inside = absurd (omega arith)
+pub front-of : (f : Form) (words : List (List ℕ)) (n : ℕ) → IsFront (patterns_of f) words n → Front (patterns_of f) words n
+front-of f words n is = record { in_words = is.in_words; in_patterns = is.in_patterns; fits = is.fits }
 
--- `a` is a path and a name
-pub a-path : IsName path_is_bad PATH_LIMIT (97 ∷ [])
-a-path = record { not_empty = omega arith; not_long = omega arith; no_place_bad = first-place }
+-- as many words as the parts of a form, all of which fit
+pub whole-from : (f : Form) (words : List (List ℕ)) (n : ℕ) (ps : List Pattern) → IsFront ps words n → ps ≡ patterns_of f → n ≡ length words → n ≡ length ps → IsWhole f words
+whole-from f words n ps is same all parts =
+    let own : IsFront (patterns_of f) words n = subst (λ (qs : List Pattern). IsFront qs words n) same is in
+    record {
+      front = subst (λ (k : ℕ). Front (patterns_of f) words k) all (front-of f words n own);
+      all = sym all ∙ parts ∙ ap length same;
+    }
 
-pub a-name : IsName name_is_bad NAME_LIMIT (97 ∷ [])
-a-name = record { not_empty = omega arith; not_long = omega arith; no_place_bad = first-name }
+-- the table
+abbrev pub forms : List Form
+forms =
+    form.Sets ∷ form.Versions ∷ form.Holds ∷ form.Hold ∷ form.Release ∷ form.BookmarkSnap ∷ form.BookmarkMark
+    ∷ form.DestroySnap ∷ form.DestroyMark ∷ form.SendFull ∷ form.SendFrom ∷ form.Receive ∷ form.ReceiveForced ∷ []
 
--- where a table begins with words
-pub prefix-of : {X : Type 0} (table words more : List X) (k : ℕ) → table ≡ take k words ++ more → k ≤ length words → (k ≤ length table) × (take k table ≡ take k words)
-prefix-of table words more k is within =
-    let count : length (take k words) ≡ k = length-take-le k words within in
-    (omega (arith, ap length is, length-append (take k words) more), ap (take k) is ∙ take_at (take k words) more k count)
+-- the place of a form in the table
+abbrev pub place_of : Form → ℕ
+place_of form.Sets = 0
+place_of form.Versions = 1
+place_of form.Holds = 2
+place_of form.Hold = 3
+place_of form.Release = 4
+place_of form.BookmarkSnap = 5
+place_of form.BookmarkMark = 6
+place_of form.DestroySnap = 7
+place_of form.DestroyMark = 8
+place_of form.SendFull = 9
+place_of form.SendFrom = 10
+place_of form.Receive = 11
+place_of form.ReceiveForced = 12
 
-le-or-lt : (m n : ℕ) → (m ≤ n) ⊎ (n < m)
+pub in-table : (f : Form) → place_of f < 13
+in-table form.Sets = omega arith
+in-table form.Versions = omega arith
+in-table form.Holds = omega arith
+in-table form.Hold = omega arith
+in-table form.Release = omega arith
+in-table form.BookmarkSnap = omega arith
+in-table form.BookmarkMark = omega arith
+in-table form.DestroySnap = omega arith
+in-table form.DestroyMark = omega arith
+in-table form.SendFull = omega arith
+in-table form.SendFrom = omega arith
+in-table form.Receive = omega arith
+in-table form.ReceiveForced = omega arith
+
+at-own : (f : Form) → f ≡ get_or forms (place_of f) form.Sets
+at-own form.Sets = refl
+at-own form.Versions = refl
+at-own form.Holds = refl
+at-own form.Hold = refl
+at-own form.Release = refl
+at-own form.BookmarkSnap = refl
+at-own form.BookmarkMark = refl
+at-own form.DestroySnap = refl
+at-own form.DestroyMark = refl
+at-own form.SendFull = refl
+at-own form.SendFrom = refl
+at-own form.Receive = refl
+at-own form.ReceiveForced = refl
+
+-- the form at a place of the table
+pub at-place : (i : ℕ) (f : Form) → place_of f ≡ i → f ≡ get_or forms i form.Sets
+at-place i f e = at-own f ∙ ap (λ k. get_or forms k form.Sets) e
+
+-- so many forms of the table were tried, none of which has all the words, and `most` words begin one of them
+pub record Tried (words : List (List ℕ)) (count most : ℕ) : Type 0 where
+  pub within : most ≤ length words
+  pub begins : Begins (take most words)
+  pub tried : (f : Form) → place_of f < count → (k : ℕ) → Front (patterns_of f) words k → k ≤ most
+  pub none : (f : Form) → place_of f < count → IsWhole f words → ⊥
+
+pub none-tried : (words : List (List ℕ)) → Tried words 0 0
+none-tried words = record {
+  within = omega arith;
+  begins = begins form.Sets words 0 (record { in_words = omega arith; in_patterns = omega arith; fits = λ place inside. absurd (omega arith) });
+  tried = λ f inside k front. absurd (omega arith);
+  none = λ f inside w. absurd (omega arith);
+}
+
+pub le-or-lt : (m n : ℕ) → (m ≤ n) ⊎ (n < m)
 le-or-lt zero n = inl (omega arith)
 le-or-lt (suc m) zero = inr (omega arith)
 le-or-lt (suc m) (suc n) = elim (le-or-lt m n) [ inl most ↦ inl (omega arith) | inr less ↦ inr (omega arith) ]
 
--- no more words are common
-common-most : (words table : List (List ℕ)) (n k : ℕ) → IsCommon words table n → k ≤ length words → k ≤ length table → take k table ≡ take k words → k ≤ n
-common-most words table n k c in_words in_table same =
-    elim (le-or-lt k n) [
-      | inl most ↦ most
-      | inr less ↦ absurd (c.other (omega arith) (omega arith)
-          (sym (get_or-take k words n [] less) ∙ ap (λ l. get_or l n []) (sym same) ∙ get_or-take k table n [] less))
-    ]
+-- no longer front is one of the form
+no-longer : (f : Form) (words : List (List ℕ)) (n k : ℕ) → IsFront (patterns_of f) words n → Front (patterns_of f) words k → k ≤ n
+no-longer f words n k is front = elim (le-or-lt k n) [
+  | inl most ↦ most
+  | inr less ↦ absurd (let w = front.in_words in let p = front.in_patterns in is.other (omega arith) (omega arith) (front.fits n less))
+]
 
--- words that begin as a listing's do
-pub record Listed (words : List (List ℕ)) (s v : ℕ) : Type 0 where
-  pub first : take 1 words ≡ codes "list" ∷ []
-  pub sets : IsCommon words sets_words s
-  pub versions : IsCommon words versions_words v
-
-pub some-words : {X : Type 0} (words : List X) (x : X) → take 1 words ≡ x ∷ [] → 0 < length words
-some-words [] x e = absurd (let n : ◌≡◌ {A = ℕ} 0 1 = ap length e in omega arith)
-some-words (y ∷ ys) x e = omega arith
-
-pub take-one : {X : Type 0} (words : List X) (k : ℕ) → 0 < k → take 1 (take k words) ≡ take 1 words
-take-one words k some = take-take 1 k words (omega arith)
-
--- a path behind the words of a listing of versions
-pub record HasPath (words : List (List ℕ)) (k v : ℕ) : Type 0 where
-  pub at : k ≡ 12
-  pub all : v ≡ 11
-  pub named : IsName path_is_bad PATH_LIMIT (get_or words 11 [])
-
-versions-go : (words : List (List ℕ)) (s v k : ℕ) (path : List ℕ) (more : List (List ℕ)) → Listed words s v → k ≤ length words → IsName path_is_bad PATH_LIMIT path → versions_words ++ path ∷ [] ≡ take k words ++ more → (k ≤ v) ⊎ HasPath words k v
-versions-go words s v k path more l within named longer =
-    let table = versions_words ++ path ∷ [] in
-    let p = prefix-of table words more k longer within in
-    let eleven : length versions_words ≡ 11 = versions-length in
-    let twelve : length table ≡ 12 = omega (arith, length-append versions_words (path ∷ []), versions-length) in
-    elim (le-or-lt k 11) [
-      | inl most ↦ inl (common-most words versions_words v k l.versions within (omega arith)
-          (sym (take-append-le k versions_words (path ∷ []) (omega arith)) ∙ p.1))
-      | inr less ↦
-          let same : take 11 versions_words ≡ take 11 words =
-          sym (take-append-le 11 versions_words (path ∷ []) (omega arith))
-          ∙ sym (take-take 11 k table (omega arith)) ∙ ap (take 11) p.1 ∙ take-take 11 k words (omega arith) in
-          let most = common-most words versions_words v 11 l.versions (omega arith) (omega arith) same in
-          let here : path ≡ get_or words 11 [] =
-          sym (get_or_at versions_words path [] [] 11 eleven) ∙ sym (get_or-take k table 11 [] less)
-          ∙ ap (λ t. get_or t 11 []) p.1 ∙ get_or-take k words 11 [] less in
-          let in_table : v ≤ length versions_words = l.versions.in_table in
-          inr (record { at = omega arith; all = omega arith; named = subst (IsName path_is_bad PATH_LIMIT) here named })
-    ]
-
--- how many words of a listing begin some command's
-goes-with : (words : List (List ℕ)) (s v k : ℕ) (command : Cmd) (more : List (List ℕ)) → Listed words s v → k ≤ length words → IsNamed command → words_of command ≡ take k words ++ more → (k ≤ s) ⊎ (k ≤ v) ⊎ HasPath words k v
-goes-with words s v k cmd.Sets more l within named longer =
-    let p = prefix-of sets_words words more k longer within in
-    inl (common-most words sets_words s k l.sets within p.0 p.1)
-goes-with words s v k (cmd.Versions path) more l within named longer = inr (versions-go words s v k path more l within named longer)
-goes-with words s v zero (cmd.DestroySnap path name) more l within named longer = inl (omega arith)
-goes-with words s v (suc k) (cmd.DestroySnap path name) more l within named longer =
-    let p = prefix-of (words_of (cmd.DestroySnap path name)) words more (suc k) longer within in
-    absurd (other-words (ap (take 1) p.1 ∙ take-one words (suc k) (omega arith) ∙ l.first))
-
-goes : (words : List (List ℕ)) (s v k : ℕ) → Listed words s v → k ≤ length words → Begins (take k words) → (k ≤ s) ⊎ (k ≤ v) ⊎ HasPath words k v
-goes words s v k l within b = goes-with words s v k b.command b.more l within b.named b.longer
-
-begins-sets : (words : List (List ℕ)) (s v : ℕ) → Listed words s v → Begins (take s words)
-begins-sets words s v l = record {
-  command = cmd.Sets;
-  more = drop s sets_words;
-  named = tt;
-  longer = rw l.sets.same (sym (take-append-drop s sets_words));
-}
-
-begins-versions : (words : List (List ℕ)) (s v : ℕ) → Listed words s v → Begins (take v words)
-begins-versions words s v l = record {
-  command = cmd.Versions (97 ∷ []);
-  more = drop v versions_words ++ (97 ∷ []) ∷ [];
-  named = a-path;
-  longer = rw l.versions.same (ap (λ t. t ++ (97 ∷ []) ∷ []) (sym (take-append-drop v versions_words)) ∙ append_assoc (take v versions_words) (drop v versions_words) ((97 ∷ []) ∷ []));
-}
-
--- which words are those of a command
-spelled-with : (words : List (List ℕ)) (s v : ℕ) (command : Cmd) → Listed words s v → Spells words command → ((s ≡ 7) × (length words ≡ 7)) ⊎ ((v ≡ 11) × (length words ≡ 12) × IsName path_is_bad PATH_LIMIT (get_or words 11 []))
-spelled-with words s v cmd.Sets l is =
-    let count : length words ≡ 7 = ap length is.same ∙ sets-length in
-    let most = common-most words sets_words s 7 l.sets (omega arith) (omega (arith, sets-length)) (ap (take 7) (sym is.same)) in
-    let in_words : s ≤ length words = l.sets.in_words in
-    inl (omega arith, count)
-spelled-with words s v (cmd.Versions path) l is =
-    let count : length words ≡ 12 = ap length is.same ∙ omega (arith, length-append versions_words (path ∷ []), versions-length) in
-    let whole : take 12 words ≡ words = take_all 12 words (omega arith) in
-    let longer : versions_words ++ path ∷ [] ≡ take 12 words ++ [] = sym is.same ∙ sym whole ∙ sym (append-nil (take 12 words)) in
-    elim (versions-go words s v 12 path [] l (omega arith) is.named longer) [
-      | inl most ↦ absurd (let in_table : v ≤ length versions_words = l.versions.in_table in omega (arith, versions-length))
-      | inr has ↦ inr (has.all, count, has.named)
-    ]
-spelled-with words s v (cmd.DestroySnap path name) l is =
-    absurd (other-words (ap (take 1) (sym is.same) ∙ l.first))
-
-pub known : (words : List (List ℕ)) (word : List ℕ) → take 1 words ≡ word ∷ [] → (word ≡ codes "list") ⊎ (word ≡ codes "destroy") → IsUnknown words → ⊥
-known [] word first is unknown = let some = some-words [] word first in omega arith
-known (w ∷ ws) word first (inl is) unknown = let same : w ≡ word = cc in unknown.0 (same ∙ is)
-known (w ∷ ws) word first (inr is) unknown = let same : w ≡ word = cc in unknown.1 (same ∙ is)
-
-pub read-sets : (words : List (List ℕ)) (s : ℕ) → IsCommon words sets_words s → s ≡ 7 → length words ≡ s → Spells words cmd.Sets
-read-sets words s c full count = record {
-  same = sym (take_all s words (omega arith)) ∙ c.same ∙ take_all s sets_words (omega (arith, sets-length));
-  named = tt;
-}
-
-begins-larger : (words : List (List ℕ)) (s v m : ℕ) → Listed words s v → (m ≡ s) ⊎ (m ≡ v) → Begins (take m words)
-begins-larger words s v m l (inl is) = rw is (begins-sets words s v l)
-begins-larger words s v m l (inr is) = rw is (begins-versions words s v l)
-
-within-larger : (words : List (List ℕ)) (s v m : ℕ) → Listed words s v → (m ≡ s) ⊎ (m ≡ v) → m ≤ length words
-within-larger words s v m l (inl is) = rw is l.sets.in_words
-within-larger words s v m l (inr is) = rw is l.versions.in_words
-
--- words that go on as neither listing
-pub bad-list : (words : List (List ℕ)) (s v m : ℕ) → Listed words s v → s ≤ m → v ≤ m → (m ≡ s) ⊎ (m ≡ v) → (s ≡ 7 → length words ≡ 7 → ⊥) → (v ≡ 11 → 11 < length words → ⊥) → Reads words (Err (BadWord m))
-bad-list words s v m l over_s over_v one no_sets no_versions = (
-  known words (codes "list") l.first (inl refl),
-  (λ command is. elim (spelled-with words s v command l is) [
-    | inl sets ↦ no_sets sets.0 sets.1
-    | inr versions ↦ no_versions versions.0 (omega (arith, versions.1))
-  ]),
-  record {
-    within = within-larger words s v m l one;
-    begins = begins-larger words s v m l one;
-    longest = λ k past within b. elim (goes words s v k l within b) [
-      | inl most ↦ omega arith
-      | inr other ↦ elim other [
-        | inl most ↦ omega arith
-        | inr has ↦ no_versions has.all (let at = has.at in omega arith)
-      ]
-    ];
-  },
-)
-
-pub read-versions : (words : List (List ℕ)) (v : ℕ) (path : List ℕ) → IsCommon words versions_words v → v ≡ 11 → length words ≡ v + 1 → path ≡ get_or words v [] → IsName path_is_bad PATH_LIMIT path → Spells words (cmd.Versions path)
-read-versions words v path c full count is named =
-    let grown : take (v + 1) words ≡ take v words ++ get_or words v [] ∷ [] = take_more words v [] (omega arith) in
+-- one more form was tried
+pub more-tried : (words : List (List ℕ)) (count most n : ℕ) (g : Form) → Tried words count most → ((f : Form) → place_of f ≡ count → f ≡ g)
+    → IsFront (patterns_of g) words n → (n ≡ length words → n ≡ length (patterns_of g) → ⊥) → Tried words (count + 1) (max most n)
+more-tried words count most n g t at is short =
     record {
-      same = sym (take_all (v + 1) words (omega arith)) ∙ grown
-          ∙ ap (λ w. take v words ++ w ∷ []) (sym is)
-          ∙ ap (λ t. t ++ path ∷ []) (c.same ∙ take_all v versions_words (omega (arith, versions-length)));
-      named = named;
+      within = let w = t.within in let v = is.in_words in omega arith;
+      begins = elim (le-or-lt n most) [
+        | inl less ↦ subst (λ (k : ℕ). Begins (take k words)) (omega arith) t.begins
+        | inr more ↦ subst (λ (k : ℕ). Begins (take k words)) (omega arith) (begins g words n (front-of g words n is))
+      ];
+      tried = λ f inside k front. elim (le-or-lt (place_of f + 1) count) [
+        | inl before ↦ (let b = t.tried f (omega arith) k front in omega arith)
+        | inr new ↦ (let b = no-longer g words n k is (subst (λ (x : Form). Front (patterns_of x) words k) (at f (omega arith)) front) in omega arith)
+      ];
+      none = λ f inside w. elim (le-or-lt (place_of f + 1) count) [
+        | inl before ↦ t.none f (omega arith) w
+        | inr new ↦ (
+            let v : IsWhole g words = subst (λ (x : Form). IsWhole x words) (at f (omega arith)) w in
+            let low = no-longer g words n (length words) is v.front in
+            let high = is.in_words in
+            let all = v.all in
+            short (omega arith) (omega arith))
+      ];
     }
 
--- the words of a listing of versions, of which the next is no path
-pub bad-path : (words : List (List ℕ)) (s v : ℕ) → Listed words s v → v ≡ 11 → v < length words → (IsName path_is_bad PATH_LIMIT (get_or words v []) → ⊥) → Reads words (Err (BadWord v))
-bad-path words s v l full more unnamed =
-    let small : s ≤ length sets_words = l.sets.in_table in
-    let at : (IsName path_is_bad PATH_LIMIT (get_or words 11 []) → ⊥) = subst (λ (n : ℕ). IsName path_is_bad PATH_LIMIT (get_or words n []) → ⊥) full unnamed in (
-      known words (codes "list") l.first (inl refl),
-      (λ command is. elim (spelled-with words s v command l is) [
-        | inl sets ↦ (let count = sets.1 in omega arith)
-        | inr versions ↦ at versions.2
-      ]),
-      record {
-        within = l.versions.in_words;
-        begins = begins-versions words s v l;
-        longest = λ k past within b. elim (goes words s v k l within b) [
-          | inl most ↦ omega (arith, sets-length)
-          | inr other ↦ elim other [ inl most ↦ omega arith | inr has ↦ at has.named ]
-        ];
-      },
-    )
+-- where no word begins a call the first one is of none
+pub unknown : (words : List (List ℕ)) → Tried words 13 0 → IsUnknown words
+unknown [] t = tt
+unknown (w ∷ ws) t = λ b.
+    let r = reached (w ∷ ws) 1 (omega arith) b in
+    let none = t.tried r.form (in-table r.form) 1 r.front in
+    omega arith
 
--- words behind those of a listing of versions
-pub bad-more : (words : List (List ℕ)) (s v m : ℕ) (path : List ℕ) → Listed words s v → v ≡ 11 → m ≡ v + 1 → m < length words → path ≡ get_or words v [] → IsName path_is_bad PATH_LIMIT path → Reads words (Err (BadWord m))
-bad-more words s v m path l full count more is named =
-    let small : s ≤ length sets_words = l.sets.in_table in
-    let grown : take (v + 1) words ≡ take v words ++ get_or words v [] ∷ [] = take_more words v [] (omega arith) in
-    let same : take m words ≡ versions_words ++ path ∷ [] =
-    ap (λ n. take n words) count ∙ grown ∙ ap (λ w. take v words ++ w ∷ []) (sym is)
-    ∙ ap (λ t. t ++ path ∷ []) (l.versions.same ∙ take_all v versions_words (omega (arith, versions-length))) in (
-      known words (codes "list") l.first (inl refl),
-      (λ command is. elim (spelled-with words s v command l is) [
-        | inl sets ↦ (let n = sets.1 in omega arith)
-        | inr versions ↦ (let n = versions.1 in omega arith)
-      ]),
-      record {
-        within = omega arith;
-        begins = record { command = cmd.Versions path; more = []; named = named; longer = sym same ∙ sym (append-nil (take m words)) };
-        longest = λ k past within b. elim (goes words s v k l within b) [
-          | inl most ↦ omega (arith, sets-length)
-          | inr other ↦ elim other [ inl most ↦ omega arith | inr has ↦ (let at = has.at in omega arith) ]
-        ];
-      },
-    )
+known : (words : List (List ℕ)) (k : ℕ) → 0 < k → k ≤ length words → Begins (take k words) → IsUnknown words → ⊥
+known [] k some within b u = omega arith
+known (w ∷ ws) zero some within b u = omega arith
+known (w ∷ ws) (suc k) some within b u =
+    u (record { given = b.given; more = take k ws ++ b.more; named = b.named; longer = b.longer })
 
-pub larger-one : (a b m : ℕ) → m ≡ max a b → (m ≡ a) ⊎ (m ≡ b)
-larger-one a b m is = elim (le-or-lt a b) [ inl most ↦ inr (omega arith) | inr less ↦ inl (omega arith) ]
-
-pub all-versions : (words : List (List ℕ)) (v : ℕ) → IsCommon words versions_words v → 11 ≤ v → v ≡ 11
-all-versions words v c past = let most : v ≤ length versions_words = c.in_table in omega (arith, versions-length)
+-- where all forms were tried, the most words that begin a call are known
+pub bad-word : (words : List (List ℕ)) (most : ℕ) → Tried words 13 most → 0 < most → Reads words (Err (BadWord most))
+bad-word words most t some = (
+  known words most some t.within t.begins,
+  (λ c is. t.none (form_of c) (in-table (form_of c)) (spelled-whole words c is)),
+  record {
+    within = t.within;
+    begins = t.begins;
+    longest = λ k past within b.
+        let r = reached words k within b in
+        let most_of = t.tried r.form (in-table r.form) k r.front in
+        omega arith;
+  },
+)

@@ -1,51 +1,56 @@
-use Rattle.std.proofs.Common.{map, Bor, ◌≡◌, ◌≢◌, ◌==◌, ◌&&◌, ◌||◌, ℕ, zero, suc, ◌<◌, Bool, true, false, not, List, [], ◌∷◌, ◌++◌, length, get_or, slice_index, refl, arith, ap, ◌∙◌, sym, lit<}
-use Rattle.std.specs.Prelude.{String, string_bytes, if◌then◌else◌}
-use Rattle.std.specs.List.{AllByRecursion}
-use Rattle.std.specs.Bool.{Decides}
-use Rattle.std.proofs.lemmas.List.{get_or-map}
-use Rattle.std.proofs.lemmas.Slice.Eq.{bytes_eq-Decides}
-use Rattle.zr_cmd.specs.Steps.{texts}
-use Rattle.std.specs.Str.{IsUtf8, IsAscii, bytes_eq}
+use Rattle.std.proofs.Common.{◌≡◌, ◌==◌, ◌&&◌, ◌||◌, ℕ, zero, suc, ◌<◌, Bool, true, false, not, List, [], ◌∷◌, ◌++◌, length, slice_index, refl, arith, ap, ◌∙◌, sym, lit<}
+use Rattle.std.specs.Prelude.{codes, if◌then◌else◌}
+use Rattle.std.specs.List.{AllByRecursion, list_all}
 use Rattle.std.proofs.lemmas.Bool.Decides.{nat_tests}
 use Rattle.std.proofs.lemmas.Str.{IsUtf8-from_ascii, IsAscii-append}
-use Rattle.zr_names.specs.Names.{IsName, is_name_byte, path_is_bad, name_is_bad, slash_is_bad, begins_component, is_dots}
-use Rattle.zr_names.specs.declared.names.TheConstants.{PATH_LIMIT, NAME_LIMIT}
+use Rattle.std.specs.Str.{IsUtf8, IsAscii}
+use Rattle.zr_names.specs.Marks.{tag_front, tag_text}
+use Rattle.zr_names.specs.Names.{is_name_byte, path_is_bad, name_is_bad, slash_is_bad, begins_component, is_dots}
+use Rattle.zr_names.specs.declared.marks.TagKind.{TagKind}
+use Rattle.zr_names.specs.declared.marks.TagKind.TheVariants.{Step, Last}
+use Rattle.zr_names.specs.Names.{IsName}
+use Rattle.zr_cmd.specs.Forms.{is_sign}
+use Rattle.zr_world.specs.declared.command.Cmd.{Cmd}
+use Rattle.zr_world.specs.declared.command.Cmd.TheVariants as cmd
+use Rattle.zr_cmd.specs.Words.{AreNamed, IsJob, IsNamed, IsPath, IsVersion, argv_words, words_of}
+use Rattle.zr_cmd.specs.declared.argv.Argv.TheVariants as argv
+use Rattle.zr_cmd.specs.declared.forms.Call.TheVariants as call
 
--- the bytes of names and paths: ASCII, and not `@`
+-- the bytes of names and paths: ASCII, and no sign
 abbrev pub ArePlain : List ℕ → Type 0
-ArePlain text = AllByRecursion (λ b. (b < 128) × (b ≢ 64)) text
+ArePlain text = AllByRecursion (λ b. (b < 128) × (is_sign b ≡ false)) text
 
-plain-from : (xs : List ℕ) → ((k : ℕ) → k < length xs → (slice_index xs k < 128) × (slice_index xs k ≢ 64)) → ArePlain xs
+plain-from : (xs : List ℕ) → ((k : ℕ) → k < length xs → (slice_index xs k < 128) × (is_sign (slice_index xs k) ≡ false)) → ArePlain xs
 plain-from [] h = tt
 plain-from (x ∷ xs) h =
-    let first : (x < 128) × (x ≢ 64) = h 0 (omega arith) in
+    let first : (x < 128) × (is_sign x ≡ false) = h 0 (omega arith) in
     (first, plain-from xs (λ k inside. h (suc k) (omega arith)))
 
 or-left : (x y : Bool) → (not x || y) ≡ false → x ≡ true
 or-left true y e = refl
 or-left false y e = cc
 
-name_byte-plain : (b : ℕ) → is_name_byte b ≡ true → (b < 128) × (b ≢ 64)
-name_byte-plain b e = (grind (arith, nat_tests), λ at. grind (arith, nat_tests))
+name_byte-plain : (b : ℕ) → is_name_byte b ≡ true → (b < 128) × (is_sign b ≡ false)
+name_byte-plain b e = (grind (arith, nat_tests), grind (arith, nat_tests))
 
-slash-plain : (b : ℕ) → (b == 47) ≡ true → (b < 128) × (b ≢ 64)
-slash-plain b e = (grind (arith, nat_tests), λ at. grind (arith, nat_tests))
+slash-plain : (b : ℕ) → (b == 47) ≡ true → (b < 128) × (is_sign b ≡ false)
+slash-plain b e = (grind (arith, nat_tests), grind (arith, nat_tests))
 
 path_byte-cases : (slash bad name rest : Bool) (P : Type 0) → (slash ≡ true → P) → (name ≡ true → P) → (if slash then bad else (not name || rest)) ≡ false → P
 path_byte-cases true bad name rest P one two e = one refl
 path_byte-cases false bad name rest P one two e = two (or-left name rest e)
 
-pub path-plain : (text : List ℕ) → IsName path_is_bad PATH_LIMIT text → ArePlain text
+pub path-plain : (text : List ℕ) → IsPath text → ArePlain text
 path-plain text name = plain-from text (λ k inside.
     let b = slice_index text k in
-    path_byte-cases (b == 47) (slash_is_bad text k) (is_name_byte b) (begins_component text k && is_dots text k) ((b < 128) × (b ≢ 64)) (slash-plain b) (name_byte-plain b) (name.no_place_bad k inside))
+    path_byte-cases (b == 47) (slash_is_bad text k) (is_name_byte b) (begins_component text k && is_dots text k) ((b < 128) × (is_sign b ≡ false)) (slash-plain b) (name_byte-plain b) (name.no_place_bad k inside))
 
 not-not : (b : Bool) → not b ≡ false → b ≡ true
 not-not true e = refl
 not-not false e = cc
 
-pub name-plain : (text : List ℕ) → IsName name_is_bad NAME_LIMIT text → ArePlain text
-name-plain text name = plain-from text (λ k inside. name_byte-plain (slice_index text k) (not-not (is_name_byte (slice_index text k)) (name.no_place_bad k inside)))
+pub name-plain : (limit : ℕ) (text : List ℕ) → IsName name_is_bad limit text → ArePlain text
+name-plain limit text name = plain-from text (λ k inside. name_byte-plain (slice_index text k) (not-not (is_name_byte (slice_index text k)) (name.no_place_bad k inside)))
 
 plain-ascii : (xs : List ℕ) → ArePlain xs → IsAscii xs
 plain-ascii [] p i = lit< tt
@@ -53,26 +58,57 @@ plain-ascii (x ∷ xs) p zero = p.0.0
 plain-ascii (x ∷ xs) p (suc i) = plain-ascii xs p.1 i
 
 -- a path is a text
-pub utf8_path : (text : List ℕ) → IsName path_is_bad PATH_LIMIT text → IsUtf8 text
+pub utf8_path : (text : List ℕ) → IsPath text → IsUtf8 text
 utf8_path text name = IsUtf8-from_ascii text (plain-ascii text (path-plain text name))
 
-one-ascii : IsAscii (64 ∷ [])
-one-ascii zero = lit< tt
-one-ascii (suc i) = lit< tt
+one-ascii : (sign : ℕ) → sign < 128 → IsAscii (sign ∷ [])
+one-ascii sign small zero = small
+one-ascii sign small (suc i) = lit< tt
 
--- so is the full name of a snapshot
-pub utf8_snap : (path name : List ℕ) → IsName path_is_bad PATH_LIMIT path → IsName name_is_bad NAME_LIMIT name → IsUtf8 ((path ++ 64 ∷ []) ++ name)
-utf8_snap path name p q =
-    let at : IsAscii (64 ∷ []) = one-ascii in
-    IsUtf8-from_ascii ((path ++ 64 ∷ []) ++ name)
-    (IsAscii-append (path ++ 64 ∷ []) name (IsAscii-append path (64 ∷ []) (plain-ascii path (path-plain path p)) at) (plain-ascii name (name-plain name q)))
+-- so is a full name
+pub utf8_full : (path name : List ℕ) (sign limit : ℕ) → sign < 128 → IsPath path → IsName name_is_bad limit name → IsUtf8 ((path ++ sign ∷ []) ++ name)
+utf8_full path name sign limit small p q =
+    let at : IsAscii (sign ∷ []) = one-ascii sign small in
+    IsUtf8-from_ascii ((path ++ sign ∷ []) ++ name)
+    (IsAscii-append (path ++ sign ∷ []) name (IsAscii-append path (sign ∷ []) (plain-ascii path (path-plain path p)) at) (plain-ascii name (name-plain limit name q)))
 
-abbrev pub none : Bor (List ℕ)
-none = record { ref_ptr = (0, 0); now = [] }
+both : (x y : Bool) → (x && y) ≡ true → (x ≡ true) × (y ≡ true)
+both true y e = (refl, e)
+both false y e = cc
 
--- a comparison of two words
-pub word-decides : {Z : Type 0} (words : List (String Z)) (table : List (Bor (List ℕ))) (place : ℕ) (word : String Z) (same : Bool) → place < length words → place < length table → word ≡ get_or words place word → same ≡ bytes_eq (string_bytes word) (get_or table place none).now → Decides same (get_or (texts words) place [] ≡ get_or (map (λ text. text.now) table) place [])
-word-decides words table place word same in_words in_table is e =
-    let one : get_or (texts words) place [] ≡ string_bytes word = get_or-map string_bytes words place word [] in_words ∙ ap string_bytes (sym is) in
-    let two : get_or (map (λ text. text.now) table) place [] ≡ (get_or table place none).now = get_or-map (λ text. text.now) table place none [] in_table in
-    rw (e, one, two) (bytes_eq-Decides (string_bytes word) (get_or table place none).now)
+bytes-ascii : (xs : List ℕ) → list_all is_name_byte xs ≡ true → IsAscii xs
+bytes-ascii [] each i = lit< tt
+bytes-ascii (x ∷ xs) each zero = (name_byte-plain x (both (is_name_byte x) (list_all is_name_byte xs) each).0).0
+bytes-ascii (x ∷ xs) each (suc i) = bytes-ascii xs (both (is_name_byte x) (list_all is_name_byte xs) each).1 i
+
+front-bytes : (kind : TagKind) → list_all is_name_byte (tag_front kind) ≡ true
+front-bytes Step = refl
+front-bytes Last = refl
+
+-- and the tag of a job
+pub utf8_tag : (kind : TagKind) (job : List ℕ) → IsJob job → IsUtf8 (tag_text kind job)
+utf8_tag kind job name =
+    IsUtf8-from_ascii (tag_text kind job) (IsAscii-append (tag_front kind) job (bytes-ascii (tag_front kind) (front-bytes kind)) (plain-ascii job (name-plain 64 job name)))
+
+-- a command that is one call has its words
+pub one_words : (program : List ℕ) (c : Cmd) → IsNamed (call.One c) → argv_words program c ≡ argv.One (program ∷ words_of (call.One c))
+one_words program cmd.Sets n = refl
+one_words program (cmd.Versions path) n = refl
+one_words program (cmd.Holds path name) n = refl
+one_words program (cmd.Hold kind job path name) n = refl
+one_words program (cmd.Release kind job path name) n = refl
+one_words program (cmd.Bookmark path from mark) n = refl
+one_words program (cmd.DestroySnap path name) n = refl
+one_words program (cmd.DestroyMark path mark) n = refl
+one_words program (cmd.Transfer transfer) n = absurd n
+
+pub one_named : (c : Cmd) → IsNamed (call.One c) → AreNamed c
+one_named cmd.Sets n = n
+one_named (cmd.Versions path) n = n
+one_named (cmd.Holds path name) n = n
+one_named (cmd.Hold kind job path name) n = n
+one_named (cmd.Release kind job path name) n = n
+one_named (cmd.Bookmark path from mark) n = n
+one_named (cmd.DestroySnap path name) n = n
+one_named (cmd.DestroyMark path mark) n = n
+one_named (cmd.Transfer transfer) n = absurd n

@@ -1,22 +1,40 @@
-ghost use Rattle.std.specs.Prelude.{◌≡◌, ◌∷◌, ◌++◌, IfOk, OnOk};
+ghost use Rattle.std.specs.Prelude.{◌≡◌, ◌≢◌, ◌<◌, [], ◌∷◌, ◌++◌, IfOk, map, OnOk};
 ghost use Rattle.std.specs.Str.{IsUtf8};
 ghost use Rattle.std.specs.String.{string_bytes};
-ghost use Rattle.zr_names.specs.Names.{IsName, name_is_bad, path_is_bad};
-ghost use Rattle.zr_names.specs.declared.names.TheConstants.{NAME_LIMIT, PATH_LIMIT};
-ghost use Rattle.zr_cmd.specs.Words.{IsNamed, sets_words, versions_words, words_of};
+ghost use Rattle.zr_names.specs.Marks.{tag_text};
+ghost use Rattle.zr_world.specs.declared.command.Cmd.TheVariants as command;
+ghost use Rattle.zr_world.specs.declared.command.Transfer.{Transfer as TransferValue};
+ghost use Rattle.zr_cmd.specs.declared.forms.Call.TheVariants as call;
+ghost use Rattle.zr_cmd.specs.Words.{
+  AreNamed,
+  argv_words,
+  IsJob,
+  IsNamed,
+  IsPath,
+  IsVersion,
+  IsVersionName,
+  mark_word,
+  send_of,
+  sets_words,
+  snap_word,
+  version_word,
+  versions_words,
+  words_of,
+};
 
+use crate::cutting::tag_front;
 use crate::words::Words;
 use std::alloc::{AllocError, Global};
 use std::str;
-use zr_names::{NoMemory, Path, SnapName};
-use zr_world::Cmd;
+use zr_names::{JobName, MarkName, NoMemory, Path, SnapName, TagKind};
+use zr_world::{Base, Cmd, Transfer, VersionName};
 
-/// Why words are no command.
+/// Why words are no call.
 #[derive(Clone, Copy, Debug, PartialEq, Eq)]
 pub enum ArgvFault {
-    /// The first word is missing or that of no command.
+    /// The first word is missing or that of no call.
     UnknownCommand,
-    /// So many words begin those of a command, and the next one doesn't go on so or is missing.
+    /// So many words begin those of a call, and the next one doesn't go on so or is missing.
     BadWord(usize),
     NoMemory,
 }
@@ -32,7 +50,15 @@ impl From<NoMemory> for ArgvFault {
     }
 }
 
-pub(crate) const SETS: [&str; 7] = [
+/// The children that a command starts, each by its words.
+#[derive(Debug, Drop)]
+pub enum Argv {
+    One(Words),
+    /// A sending end into a receiving end.
+    Pipe(Words, Words),
+}
+
+const SETS: [&str; 7] = [
     "list",
     "-H",
     "-p",
@@ -42,7 +68,7 @@ pub(crate) const SETS: [&str; 7] = [
     "name,zrepl:placeholder,receive_resume_token",
 ];
 
-pub(crate) const VERSIONS: [&str; 11] = [
+const VERSIONS: [&str; 11] = [
     "list",
     "-H",
     "-p",
@@ -81,49 +107,267 @@ fn word_of(alloc: Global, name: &[u8]) -> Result<String, AllocError>
     }
 }
 
+/// Takes a path as the next word.
 #[tactic(auto, using(crate::proofs::Texts::utf8_path))]
-fn path_word(alloc: Global, path: &Path) -> Result<String, AllocError>
-    ensures word { IfOk result (λ word. string_bytes word ≡ path.now) }
-    ensures named { OnOk result (IsName path_is_bad PATH_LIMIT path.now) }
+fn push_path(alloc: Global, words: &mut Words, path: &Path) -> Result<(), AllocError>
+    ensures words { OnOk result (words.new ≡ words.old ++ path.now ∷ []) }
+    ensures named { OnOk result (IsPath path.now) }
 {
-    word_of(alloc, path.as_bytes())
+    words.push(word_of(alloc, path.as_bytes())?)
 }
 
-/// The full name of a snapshot.
-fn snap_word(alloc: Global, path: &Path, name: &SnapName) -> Result<String, AllocError>
-    ensures word { IfOk result (λ word. string_bytes word ≡ path.now ++ 64 ∷ name.now) }
-    ensures named { OnOk result (IsName path_is_bad PATH_LIMIT path.now × IsName name_is_bad NAME_LIMIT name.now) }
+/// A path, a sign and a name as one word.
+fn full_word(alloc: Global, path: &Path, sign: u8, name: &[u8]) -> Result<String, AllocError>
+    requires sign { sign < 128 }
+    requires name { IsVersion name.now }
+    ensures word { IfOk result (λ word. string_bytes word ≡ path.now ++ sign ∷ name.now) }
+    ensures named { OnOk result (IsPath path.now) }
 {
     let mut text = Vec::from_slice(alloc, path.as_bytes())?;
-    text.push(b'@')?;
-    text.extend_from_slice(name.as_bytes())?;
+    text.push(sign)?;
+    text.extend_from_slice(name)?;
     word_of(alloc, text.as_slice())
 }
 
-fn push_words(alloc: Global, words: &mut Words, cmd: &Cmd) -> Result<(), AllocError>
-    ensures words { OnOk result (words.new ≡ words.old ++ words_of cmd.now) }
-    ensures named { OnOk result (IsNamed cmd.now) }
+/// Takes the full name of a snapshot as the next word.
+fn push_snap(
+    alloc: Global,
+    words: &mut Words,
+    path: &Path,
+    name: &SnapName,
+) -> Result<(), AllocError>
+    ensures words { OnOk result (words.new ≡ words.old ++ snap_word path.now name.now ∷ []) }
+    ensures named { OnOk result (IsPath path.now × IsVersion name.now) }
 {
-    match cmd {
-        Cmd::Sets => push_sets(alloc, words),
-        Cmd::Versions(path) => {
-            push_versions(alloc, words)?;
-            words.push(path_word(alloc, path)?)
-        }
-        Cmd::DestroySnap(path, name) => {
-            words.push(String::from_str(alloc, "destroy")?)?;
-            words.push(snap_word(alloc, path, name)?)
-        }
+    words.push(full_word(alloc, path, b'@', name.as_bytes())?)
+}
+
+/// Takes the full name of a bookmark as the next word.
+fn push_mark(
+    alloc: Global,
+    words: &mut Words,
+    path: &Path,
+    mark: &MarkName,
+) -> Result<(), AllocError>
+    ensures words { OnOk result (words.new ≡ words.old ++ mark_word path.now mark.now ∷ []) }
+    ensures named { OnOk result (IsPath path.now × IsVersion mark.now) }
+{
+    words.push(full_word(alloc, path, b'#', mark.as_bytes())?)
+}
+
+/// Takes the full name of a snapshot or a bookmark as the next word.
+fn push_version(
+    alloc: Global,
+    words: &mut Words,
+    path: &Path,
+    name: &VersionName,
+) -> Result<(), AllocError>
+    ensures words { OnOk result (words.new ≡ words.old ++ version_word path.now name.now ∷ []) }
+    ensures named { OnOk result (IsPath path.now × IsVersionName name.now) }
+{
+    match name {
+        VersionName::Snap(name) => push_snap(alloc, words, path, name),
+        VersionName::Mark(mark) => push_mark(alloc, words, path, mark),
     }
 }
 
-/// The words with which the program is called for a command, its own name first.
-pub fn argv_of(alloc: Global, program: &str, cmd: &Cmd) -> Result<Words, NoMemory>
-    ensures words { IfOk result (λ words. words ≡ program.now ∷ words_of cmd.now) }
-    ensures named { OnOk result (IsNamed cmd.now) }
+/// The tag of a job as a word.
+fn tag_word(alloc: Global, kind: TagKind, job: &JobName) -> Result<String, AllocError>
+    ensures word { IfOk result (λ word. string_bytes word ≡ tag_text kind job.now) }
+    ensures named { OnOk result (IsJob job.now) }
+{
+    let mut text = Vec::from_slice(alloc, tag_front(kind))?;
+    text.extend_from_slice(job.as_bytes())?;
+    word_of(alloc, text.as_slice())
+}
+
+/// Takes the words that `hold` and `release` are followed by.
+fn push_hold(
+    alloc: Global,
+    words: &mut Words,
+    verb: &str,
+    kind: TagKind,
+    job: &JobName,
+    path: &Path,
+    name: &SnapName,
+) -> Result<(), AllocError>
+    ensures words { OnOk result (words.new ≡ words.old ++ verb.now ∷ tag_text kind job.now ∷ snap_word path.now name.now ∷ []) }
+    ensures named { OnOk result (IsJob job.now × IsPath path.now × IsVersion name.now) }
+{
+    words.push_all(alloc, &[verb])?;
+    words.push(tag_word(alloc, kind, job)?)?;
+    push_snap(alloc, words, path, name)
+}
+
+/// Takes the words of a bookmark.
+fn push_bookmark(
+    alloc: Global,
+    words: &mut Words,
+    path: &Path,
+    from: &VersionName,
+    mark: &MarkName,
+) -> Result<(), AllocError>
+    ensures words { OnOk result (words.new ≡ words.old ++ words_of (call.One (command.Bookmark path.now from.now mark.now))) }
+    ensures named { OnOk result (IsNamed (call.One (command.Bookmark path.now from.now mark.now))) }
+{
+    words.push_all(alloc, &["bookmark"])?;
+    push_version(alloc, words, path, from)?;
+    push_mark(alloc, words, path, mark)
+}
+
+/// Takes the words of a send from a bookmark.
+fn push_send_from(
+    alloc: Global,
+    words: &mut Words,
+    path: &Path,
+    mark: &MarkName,
+    name: &SnapName,
+) -> Result<(), AllocError>
+    ensures words { OnOk result (words.new ≡ words.old ++ words_of (call.SendFrom path.now mark.now name.now)) }
+    ensures named { OnOk result (IsNamed (call.SendFrom path.now mark.now name.now)) }
+{
+    words.push_all(alloc, &["send", "-i"])?;
+    push_mark(alloc, words, path, mark)?;
+    push_snap(alloc, words, path, name)
+}
+
+/// Takes the words of a receive.
+fn push_receive(
+    alloc: Global,
+    words: &mut Words,
+    path: &Path,
+    force: bool,
+) -> Result<(), AllocError>
+    ensures words { OnOk result (words.new ≡ words.old ++ words_of (call.Receive path.now force)) }
+    ensures named { OnOk result (IsNamed (call.Receive path.now force)) }
+{
+    if force {
+        words.push_all(alloc, &["receive", "-s", "-u", "-F"])?;
+    } else {
+        words.push_all(alloc, &["receive", "-s", "-u"])?;
+    }
+    push_path(alloc, words, path)
+}
+
+/// Takes these words and the full name of a snapshot.
+fn push_with_snap(
+    alloc: Global,
+    words: &mut Words,
+    texts: &[&str],
+    path: &Path,
+    name: &SnapName,
+) -> Result<(), AllocError>
+    ensures words { OnOk result (words.new ≡ words.old ++ (map (λ text. text.now) texts.now ++ snap_word path.now name.now ∷ [])) }
+    ensures named { OnOk result (IsPath path.now × IsVersion name.now) }
+{
+    words.push_all(alloc, texts)?;
+    push_snap(alloc, words, path, name)
+}
+
+/// Takes these words and the full name of a bookmark.
+fn push_with_mark(
+    alloc: Global,
+    words: &mut Words,
+    texts: &[&str],
+    path: &Path,
+    mark: &MarkName,
+) -> Result<(), AllocError>
+    ensures words { OnOk result (words.new ≡ words.old ++ (map (λ text. text.now) texts.now ++ mark_word path.now mark.now ∷ [])) }
+    ensures named { OnOk result (IsPath path.now × IsVersion mark.now) }
+{
+    words.push_all(alloc, texts)?;
+    push_mark(alloc, words, path, mark)
+}
+
+/// Takes the words of a listing of versions.
+fn push_listing(alloc: Global, words: &mut Words, path: &Path) -> Result<(), AllocError>
+    ensures words { OnOk result (words.new ≡ words.old ++ (versions_words ++ path.now ∷ [])) }
+    ensures named { OnOk result (IsPath path.now) }
+{
+    push_versions(alloc, words)?;
+    push_path(alloc, words, path)
+}
+
+/// Takes the words of the sending end of a transfer.
+fn push_send(alloc: Global, words: &mut Words, transfer: &Transfer) -> Result<(), AllocError>
+    ensures words { OnOk result (words.new ≡ words.old ++ words_of (send_of transfer.now)) }
+    ensures named { OnOk result (IsNamed (send_of transfer.now)) }
+{
+    match &transfer.base {
+        Base::Full => push_with_snap(alloc, words, &["send"], &transfer.source, &transfer.to),
+        Base::From(mark, _) => push_send_from(alloc, words, &transfer.source, mark, &transfer.to),
+    }
+}
+
+/// Takes the words of a command that is one call.
+fn push_words(alloc: Global, words: &mut Words, cmd: &Cmd) -> Result<(), AllocError>
+    requires one { (transfer : TransferValue) → cmd.now ≢ command.Transfer transfer }
+    ensures words { OnOk result (words.new ≡ words.old ++ words_of (call.One cmd.now)) }
+    ensures named { OnOk result (IsNamed (call.One cmd.now)) }
+{
+    match cmd {
+        Cmd::Sets => push_sets(alloc, words),
+        Cmd::Versions(path) => push_listing(alloc, words, path),
+        Cmd::Holds(path, name) => push_with_snap(alloc, words, &["holds", "-H"], path, name),
+        Cmd::Hold(kind, job, path, name) => push_hold(alloc, words, "hold", *kind, job, path, name),
+        Cmd::Release(kind, job, path, name) => {
+            push_hold(alloc, words, "release", *kind, job, path, name)
+        }
+        Cmd::Bookmark(path, from, mark) => push_bookmark(alloc, words, path, from, mark),
+        Cmd::DestroySnap(path, name) => push_with_snap(alloc, words, &["destroy"], path, name),
+        Cmd::DestroyMark(path, mark) => push_with_mark(alloc, words, &["destroy"], path, mark),
+        Cmd::Transfer(_) => unreachable!(),
+    }
+}
+
+/// A list of words that begins with the program's name.
+fn begun(alloc: Global, program: &str) -> Result<Words, AllocError>
+    ensures { IfOk result (λ words. words ≡ program.now ∷ []) }
 {
     let mut words = Words::new(alloc);
-    words.push(String::from_str(alloc, program)?)?;
-    push_words(alloc, &mut words, cmd)?;
+    words.push_all(alloc, &[program])?;
     Ok(words)
+}
+
+/// Both children of a transfer.
+fn pipe_of(alloc: Global, program: &str, transfer: &Transfer) -> Result<Argv, AllocError>
+    ensures words { IfOk result (λ argv. argv ≡ argv_words program.now (command.Transfer transfer.now)) }
+    ensures named { OnOk result (AreNamed (command.Transfer transfer.now)) }
+{
+    let mut send = begun(alloc, program)?;
+    push_send(alloc, &mut send, transfer)?;
+    let mut receive = begun(alloc, program)?;
+    push_receive(alloc, &mut receive, &transfer.target, transfer.force)?;
+    Ok(Argv::Pipe(send, receive))
+}
+
+/// The child of a command that is one call.
+#[tactic(auto, using(crate::proofs::Texts::one_words, crate::proofs::Texts::one_named))]
+fn one_of(alloc: Global, program: &str, cmd: &Cmd) -> Result<Argv, AllocError>
+    requires one { (transfer : TransferValue) → cmd.now ≢ command.Transfer transfer }
+    ensures words { IfOk result (λ argv. argv ≡ argv_words program.now cmd.now) }
+    ensures named { OnOk result (AreNamed cmd.now) }
+{
+    let mut words = begun(alloc, program)?;
+    push_words(alloc, &mut words, cmd)?;
+    Ok(Argv::One(words))
+}
+
+/// The children that a command starts, the program's name first in the words of each.
+pub fn argv_of(alloc: Global, program: &str, cmd: &Cmd) -> Result<Argv, NoMemory>
+    ensures words { IfOk result (λ argv. argv ≡ argv_words program.now cmd.now) }
+    ensures named { OnOk result (AreNamed cmd.now) }
+{
+    let argv = match cmd {
+        Cmd::Transfer(transfer) => pipe_of(alloc, program, transfer)?,
+        Cmd::Sets
+        | Cmd::Versions(_)
+        | Cmd::Holds(_, _)
+        | Cmd::Hold(_, _, _, _)
+        | Cmd::Release(_, _, _, _)
+        | Cmd::Bookmark(_, _, _)
+        | Cmd::DestroySnap(_, _)
+        | Cmd::DestroyMark(_, _) => one_of(alloc, program, cmd)?,
+    };
+    Ok(argv)
 }

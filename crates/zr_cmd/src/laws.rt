@@ -1,12 +1,16 @@
-ghost use Rattle.std.specs.Prelude.{◌≡◌, ◌⊎◌, List, ℕ, Result, Ok, Err};
-ghost use Rattle.zr_world.specs.declared.command.Cmd.{Cmd};
+ghost use Rattle.std.specs.Prelude.{◌≡◌, ◌⊎◌, List, ℕ, Result, Ok, Err, Some};
+ghost use Rattle.zr_cmd.specs.Calls.{call_of};
 ghost use Rattle.zr_cmd.specs.Words.{IsNamed, Reads, Spells, words_of};
 ghost use Rattle.zr_cmd.specs.declared.argv.ArgvFault.{ArgvFault};
 ghost use Rattle.zr_cmd.specs.declared.argv.ArgvFault.TheVariants.{NoMemory};
+ghost use Rattle.zr_cmd.specs.declared.forms.Call.{Call};
 
-/// Words are those of one command at most, and what reads them finds that command where memory is not refused.
-pub fn words_are_of_one_command()
-    ensures one { (a b : Cmd) → IsNamed a → IsNamed b → words_of a ≡ words_of b → a ≡ b }
-    ensures read_back { (words : List (List ℕ)) (command : Cmd) (result : Result Cmd ArgvFault) →
-        Reads words result → Spells words command → (result ≡ Ok command) ⊎ (result ≡ Err NoMemory) }
+/// Words are those of one call at most, and what reads them finds that call where memory is not refused.
+pub fn words_are_of_one_call()
+    ensures one { (a b : Call) → IsNamed a → IsNamed b → words_of a ≡ words_of b → a ≡ b }
+    ensures read_back { (words : List (List ℕ)) (given : Call) (result : Result Call ArgvFault) →
+        Reads words result → Spells words given → (result ≡ Ok given) ⊎ (result ≡ Err NoMemory) }
+    // The call whose words these are can be computed.
+    ensures spelled { (words : List (List ℕ)) (given : Call) → call_of words ≡ Some given → words_of given ≡ words }
+    ensures found { (given : Call) → IsNamed given → call_of (words_of given) ≡ Some given }
 {}

@@ -1,11 +1,14 @@
-//! The words of the commands that are given to `zfs`, written and read.
+//! The words of the calls of `zfs`, written and read.
 #![tactic(auto)]
 
-pub use argv::{ArgvFault, argv_of};
+pub use argv::{Argv, ArgvFault, argv_of};
+pub use forms::Call;
 pub use reading::read_argv;
 pub use words::Words;
 
 pub mod argv;
+pub mod cutting;
+pub mod forms;
 pub mod laws;
 pub mod reading;
 #[cfg(test)]

@@ -1,160 +1,186 @@
-ghost use Rattle.std.specs.Prelude.{◌≡◌, ◌≢◌, ◌<◌, [], ◌∷◌, ◌++◌, ℕ, List, map, length, take, slice_index_or, codes, IfOk, IfSome, IfNone};
+ghost use Rattle.std.specs.Prelude.{◌≡◌, IfOk, map};
 ghost use Rattle.std.specs.Bool.{Decides};
-ghost use Rattle.std.specs.String.{string_bytes};
-ghost use Rattle.zr_names.specs.Names.{IsName, name_is_bad, path_is_bad};
-ghost use Rattle.zr_names.specs.declared.names.TheConstants.{NAME_LIMIT, PATH_LIMIT};
-ghost use Rattle.zr_cmd.specs.Steps.{IsCommon, IsFull, Lacks, texts};
-ghost use Rattle.zr_cmd.specs.Words.{Reads, sets_words, versions_words};
+ghost use Rattle.zr_cmd.specs.Forms.{Fits, job_part, kind_part, name_part, pattern_of, patterns_of, read_as, set_part, word_at};
+ghost use Rattle.zr_cmd.specs.Steps.{IsFront, texts};
+ghost use Rattle.zr_cmd.specs.Words.{IsJob, IsNamed, IsPath, IsVersion, Reads};
+ghost use Rattle.zr_cmd.specs.declared.forms.Call.TheVariants as call;
+ghost use Rattle.zr_cmd.specs.declared.forms.Form.TheVariants as form;
 
-use crate::argv::{ArgvFault, SETS, VERSIONS};
+use crate::argv::ArgvFault;
+use crate::cutting::{
+    is_full, is_job_tag, is_path, is_same_set, job_of, job_part, kind_part, mark_of, name_part,
+    path_of, set_part, snap_of, word_at,
+};
+use crate::forms::{Call, FORMS, Form, Part};
 use std::alloc::Global;
-use zr_names::{NameFault, NoMemory, Path, SnapName, read_path, read_snap};
-use zr_world::Cmd;
+use zr_names::{JobName, MarkName, NoMemory, Path, SnapName, TagKind};
+use zr_world::{Cmd, VersionName};
 
-/// Whether a word is that of a table.
-fn word_is(words: &[String], table: &[&str], place: usize) -> bool
-    requires in_words { place < length words.now }
-    requires in_table { place < length table.now }
-    ensures { Decides result
-        (slice_index_or (texts words.now) place [] ≡ slice_index_or (map (λ text. text.now) table.now) place []) }
+/// Whether a word is as a part of the table has it, behind the word before.
+fn fits(alloc: Global, part: Part, before: &[u8], word: &[u8]) -> Result<bool, NoMemory>
+    ensures { IfOk result (λ yes. Decides yes (Fits (pattern_of part) before.now word.now)) }
 {
-    words[place].as_str() == table[place]
+    match part {
+        Part::Fixed(text) => Ok(word == text.as_bytes()),
+        Part::Path => is_path(alloc, word),
+        Part::Snap => is_full(alloc, b'@', word),
+        Part::Mark => is_full(alloc, b'#', word),
+        Part::SnapOfSame => Ok(is_full(alloc, b'@', word)? && is_same_set(word, before)),
+        Part::MarkOfSame => Ok(is_full(alloc, b'#', word)? && is_same_set(word, before)),
+        Part::Tag => is_job_tag(alloc, word),
+    }
 }
 
-/// How many words at the front are those of a table.
-fn common(words: &[String], table: &[&str]) -> usize
-    ensures { IsCommon (texts words.now) (map (λ text. text.now) table.now) result }
+/// How many words at the front are as the parts have them.
+fn front(alloc: Global, words: &[String], parts: &[Part]) -> Result<usize, NoMemory>
+    ensures { IfOk result (λ count. IsFront (map pattern_of parts.now) (texts words.now) count) }
 {
-    let most = words.len().min(table.len());
+    let most = words.len().min(parts.len());
     for place in 0..most {
-        if !word_is(words, table, place) {
-            return place;
+        let before = word_at(words, place.saturating_sub(1));
+        if !fits(alloc, parts[place], before, word_at(words, place))? {
+            return Ok(place);
         }
     }
-    most
+    Ok(most)
 }
 
-#[tactic(auto, unfolding(crate::specs::Words::sets_words))]
-fn common_sets(words: &[String]) -> usize
-    ensures { IsCommon (texts words.now) sets_words result }
+/// The path in the full name at this place.
+fn set_at(alloc: Global, words: &[String], place: usize) -> Result<Path, NoMemory>
+    requires { IsPath (set_part (word_at (texts words.now) place)) }
+    ensures { IfOk result (λ path. path ≡ set_part (word_at (texts words.now) place)) }
 {
-    common(words, &SETS)
+    path_of(alloc, set_part(word_at(words, place)))
 }
 
-#[tactic(auto, unfolding(crate::specs::Words::versions_words))]
-fn common_versions(words: &[String]) -> usize
-    ensures { IsCommon (texts words.now) versions_words result }
+/// The name of the snapshot at this place.
+fn snap_at(alloc: Global, words: &[String], place: usize) -> Result<SnapName, NoMemory>
+    requires { IsVersion (name_part (word_at (texts words.now) place)) }
+    ensures { IfOk result (λ name. name ≡ name_part (word_at (texts words.now) place)) }
 {
-    common(words, &VERSIONS)
+    snap_of(alloc, name_part(word_at(words, place)))
 }
 
-/// The bytes of a word.
-fn word_at(words: &[String], place: usize) -> &[u8]
-    requires { place < length words.now }
-    ensures { result.now ≡ slice_index_or (texts words.now) place [] }
+/// The name of the bookmark at this place.
+fn mark_at(alloc: Global, words: &[String], place: usize) -> Result<MarkName, NoMemory>
+    requires { IsVersion (name_part (word_at (texts words.now) place)) }
+    ensures { IfOk result (λ name. name ≡ name_part (word_at (texts words.now) place)) }
 {
-    words[place].as_bytes()
+    mark_of(alloc, name_part(word_at(words, place)))
 }
 
-/// The path that a word is.
-fn path_of(alloc: Global, word: &[u8]) -> Result<Option<Path>, NoMemory>
-    ensures some { IfOk result (λ path. IfSome path (λ p. (p ≡ word.now) × IsName path_is_bad PATH_LIMIT word.now)) }
-    ensures none { IfOk result (λ path. IfNone path (IsName path_is_bad PATH_LIMIT word.now → ⊥)) }
+/// The kind of the tag in the second word.
+fn kind_of(words: &[String]) -> TagKind
+    ensures { result ≡ kind_part (word_at (texts words.now) 1) }
 {
-    match read_path(alloc, word) {
-        Ok(path) => Ok(Some(path)),
-        Err(NameFault::Empty | NameFault::BadByte(_) | NameFault::TooLong(_)) => Ok(None),
-        Err(NameFault::NoMemory) => Err(NoMemory),
-    }
+    kind_part(word_at(words, 1))
 }
 
-/// The name of a snapshot that a word is.
-fn snap_of(alloc: Global, word: &[u8]) -> Result<Option<SnapName>, NoMemory>
-    ensures some { IfOk result (λ name. IfSome name (λ n. (n ≡ word.now) × IsName name_is_bad NAME_LIMIT word.now)) }
-    ensures none { IfOk result (λ name. IfNone name (IsName name_is_bad NAME_LIMIT word.now → ⊥)) }
+/// The job of the tag in the second word.
+fn job_of_tag(alloc: Global, words: &[String]) -> Result<JobName, NoMemory>
+    requires { IsJob (job_part (word_at (texts words.now) 1)) }
+    ensures { IfOk result (λ name. name ≡ job_part (word_at (texts words.now) 1)) }
 {
-    match read_snap(alloc, word) {
-        Ok(name) => Ok(Some(name)),
-        Err(NameFault::Empty | NameFault::BadByte(_) | NameFault::TooLong(_)) => Ok(None),
-        Err(NameFault::NoMemory) => Err(NoMemory),
-    }
+    job_of(alloc, job_part(word_at(words, 1)))
 }
 
-/// Reads the words of a listing.
-fn read_list(alloc: Global, words: &[String]) -> Result<Cmd, ArgvFault>
-    requires { take 1 (texts words.now) ≡ codes "list" ∷ [] }
-    ensures { Reads (texts words.now) result }
+/// The command of these words of a hold.
+fn hold_as(alloc: Global, words: &[String]) -> Result<Cmd, NoMemory>
+    requires { IsNamed (read_as form.Hold (texts words.now)) }
+    ensures { IfOk result (λ command. call.One command ≡ read_as form.Hold (texts words.now)) }
 {
-    let sets = common_sets(words);
-    if sets == SETS.len() && words.len() == sets {
-        return Ok(Cmd::Sets);
-    }
-    let versions = common_versions(words);
-    if versions < VERSIONS.len() || words.len() == versions {
-        return Err(ArgvFault::BadWord(sets.max(versions)));
-    }
-    match path_of(alloc, word_at(words, versions))? {
-        Some(path) if words.len() == versions + 1 => Ok(Cmd::Versions(path)),
-        Some(_) => Err(ArgvFault::BadWord(versions + 1)),
-        None => Err(ArgvFault::BadWord(versions)),
-    }
+    Ok(Cmd::Hold(
+        kind_of(words),
+        job_of_tag(alloc, words)?,
+        set_at(alloc, words, 2)?,
+        snap_at(alloc, words, 2)?,
+    ))
 }
 
-/// What stands before and after the first `@`.
-fn cut(word: &[u8]) -> Option<(&[u8], &[u8])>
-    ensures some { IfSome result (λ parts. (word.now ≡ parts.0.now ++ 64 ∷ parts.1.now) × Lacks parts.0.now) }
-    ensures none { IfNone result (Lacks word.now) }
+/// The command of these words of a release.
+fn release_as(alloc: Global, words: &[String]) -> Result<Cmd, NoMemory>
+    requires { IsNamed (read_as form.Release (texts words.now)) }
+    ensures { IfOk result (λ command. call.One command ≡ read_as form.Release (texts words.now)) }
 {
-    for place in 0..word.len() {
-        if word[place] == b'@' {
-            return Some((&word[..place], &word[place + 1..]));
+    Ok(Cmd::Release(
+        kind_of(words),
+        job_of_tag(alloc, words)?,
+        set_at(alloc, words, 2)?,
+        snap_at(alloc, words, 2)?,
+    ))
+}
+
+/// The command of these words of a bookmark of a snapshot.
+fn bookmark_snap_as(alloc: Global, words: &[String]) -> Result<Cmd, NoMemory>
+    requires { IsNamed (read_as form.BookmarkSnap (texts words.now)) }
+    ensures { IfOk result (λ command. call.One command ≡ read_as form.BookmarkSnap (texts words.now)) }
+{
+    let path = set_at(alloc, words, 1)?;
+    let from = VersionName::Snap(snap_at(alloc, words, 1)?);
+    Ok(Cmd::Bookmark(path, from, mark_at(alloc, words, 2)?))
+}
+
+/// The command of these words of a bookmark of a bookmark.
+fn bookmark_mark_as(alloc: Global, words: &[String]) -> Result<Cmd, NoMemory>
+    requires { IsNamed (read_as form.BookmarkMark (texts words.now)) }
+    ensures { IfOk result (λ command. call.One command ≡ read_as form.BookmarkMark (texts words.now)) }
+{
+    let path = set_at(alloc, words, 1)?;
+    let from = VersionName::Mark(mark_at(alloc, words, 1)?);
+    Ok(Cmd::Bookmark(path, from, mark_at(alloc, words, 2)?))
+}
+
+/// The call of these words of a send from a bookmark.
+fn send_from_as(alloc: Global, words: &[String]) -> Result<Call, NoMemory>
+    requires { IsNamed (read_as form.SendFrom (texts words.now)) }
+    ensures { IfOk result (λ given. given ≡ read_as form.SendFrom (texts words.now)) }
+{
+    let path = set_at(alloc, words, 2)?;
+    let mark = mark_at(alloc, words, 2)?;
+    Ok(Call::SendFrom(path, mark, snap_at(alloc, words, 3)?))
+}
+
+/// The call of this form with the names that stand in the words.
+fn call_as(alloc: Global, form: Form, words: &[String]) -> Result<Call, NoMemory>
+    requires { IsNamed (read_as form (texts words.now)) }
+    ensures { IfOk result (λ given. given ≡ read_as form (texts words.now)) }
+{
+    let command = match form {
+        Form::Sets => Cmd::Sets,
+        Form::Versions => Cmd::Versions(path_of(alloc, word_at(words, 11))?),
+        Form::Holds => Cmd::Holds(set_at(alloc, words, 2)?, snap_at(alloc, words, 2)?),
+        Form::Hold => hold_as(alloc, words)?,
+        Form::Release => release_as(alloc, words)?,
+        Form::BookmarkSnap => bookmark_snap_as(alloc, words)?,
+        Form::BookmarkMark => bookmark_mark_as(alloc, words)?,
+        Form::DestroySnap => Cmd::DestroySnap(set_at(alloc, words, 1)?, snap_at(alloc, words, 1)?),
+        Form::DestroyMark => Cmd::DestroyMark(set_at(alloc, words, 1)?, mark_at(alloc, words, 1)?),
+        Form::SendFull => {
+            return Ok(Call::SendFull(set_at(alloc, words, 1)?, snap_at(alloc, words, 1)?));
         }
-    }
-    None
-}
-
-/// The full name of a snapshot that a word is.
-fn full_of(alloc: Global, word: &[u8]) -> Result<Option<(Path, SnapName)>, NoMemory>
-    ensures some { IfOk result (λ full. IfSome full (λ f. IsFull word.now f.0 f.1)) }
-    ensures none { IfOk result (λ full. IfNone full ((path name : List ℕ) → IsFull word.now path name → ⊥)) }
-{
-    let Some((path, name)) = cut(word) else {
-        return Ok(None);
+        Form::SendFrom => return send_from_as(alloc, words),
+        Form::Receive => return Ok(Call::Receive(path_of(alloc, word_at(words, 3))?, false)),
+        Form::ReceiveForced => return Ok(Call::Receive(path_of(alloc, word_at(words, 4))?, true)),
     };
-    let Some(path) = path_of(alloc, path)? else {
-        return Ok(None);
-    };
-    match snap_of(alloc, name)? {
-        Some(name) => Ok(Some((path, name))),
-        None => Ok(None),
-    }
-}
-
-/// Reads the words of a destroy.
-fn read_destroy(alloc: Global, words: &[String]) -> Result<Cmd, ArgvFault>
-    requires { take 1 (texts words.now) ≡ codes "destroy" ∷ [] }
-    ensures { Reads (texts words.now) result }
-{
-    if words.len() == 1 {
-        return Err(ArgvFault::BadWord(1));
-    }
-    match full_of(alloc, word_at(words, 1))? {
-        Some((path, name)) if words.len() == 2 => Ok(Cmd::DestroySnap(path, name)),
-        Some(_) => Err(ArgvFault::BadWord(2)),
-        None => Err(ArgvFault::BadWord(1)),
-    }
+    Ok(Call::One(command))
 }
 
 /// Reads the words after the program's name, as `argv_of` writes them.
-pub fn read_argv(alloc: Global, words: &[String]) -> Result<Cmd, ArgvFault>
+pub fn read_argv(alloc: Global, words: &[String]) -> Result<Call, ArgvFault>
     ensures { Reads (texts words.now) result }
 {
-    let Some(first) = words.first() else {
-        return Err(ArgvFault::UnknownCommand);
-    };
-    match first.as_str() {
-        "list" => read_list(alloc, words),
-        "destroy" => read_destroy(alloc, words),
-        _ => Err(ArgvFault::UnknownCommand),
+    let mut most: usize = 0;
+    for form in FORMS {
+        let parts = form.parts();
+        let count = front(alloc, words, parts)?;
+        if count == words.len() && count == parts.len() {
+            return Ok(call_as(alloc, form, words)?);
+        }
+        most = most.max(count);
+    }
+    if most == 0 {
+        Err(ArgvFault::UnknownCommand)
+    } else {
+        Err(ArgvFault::BadWord(most))
     }
 }

@@ -30,7 +30,7 @@ token-sound column passes = choose (same_text column (codes "-")) refl passes wh
   choose true dash passes = same_once column (codes "-") dash
   choose false dash passes = (refl, IsName-from token_is_bad TOKEN_LIMIT column passes)
 
-filled : (text : List ℕ) → 0 < length text → same_text text [] ≡ false
+pub filled : (text : List ℕ) → 0 < length text → same_text text [] ≡ false
 filled [] some = absurd (omega arith)
 filled (b ∷ bs) some = refl
 

@@ -2,9 +2,9 @@ use Rattle.std.specs.Prelude.{◌==◌, ◌&&◌, ◌||◌, ℕ, zero, suc, ◌^
 use Rattle.std.specs.Cmp.Lexicographic.{pointwise}
 use Rattle.std.specs.Fmt.{decimal}
 use Rattle.std.specs.Str.Parse.{digits_value}
-use Rattle.zr_names.specs.Names.{name_is_bad, path_is_bad, token_is_bad}
+use Rattle.zr_names.specs.Names.{name_is_bad, path_is_bad, tag_is_bad, token_is_bad}
 use Rattle.zr_names.specs.declared.names.TheConstants.{NAME_LIMIT, PATH_LIMIT, TOKEN_LIMIT}
-use Rattle.zr_listing.specs.Columns.{columns}
+use Rattle.zr_listing.specs.Columns.{columns, full_name}
 use Rattle.zr_world.specs.declared.version.SetRow.{SetRow}
 use Rattle.zr_world.specs.declared.version.VersionName.{VersionName}
 use Rattle.zr_world.specs.declared.version.VersionName.TheVariants.{Snap, Mark}
@@ -93,3 +93,15 @@ version_of path other = None
 -- the row that a line of a listing of the versions of the dataset at this path spells
 abbrev pub version_row_of : List ℕ → List ℕ → Option VersionRow
 version_row_of path line = version_of path (columns line)
+
+-- the tag of the columns of a hold of the snapshot of this name at this path
+abbrev pub hold_in : List ℕ → List ℕ → List (List ℕ) → Option (List ℕ)
+hold_in path name (full ∷ tag ∷ date ∷ []) =
+    if same_text full (full_name path (Snap name)) && is_name tag_is_bad NAME_LIMIT tag && not (same_text date [])
+    then Some tag
+    else None
+hold_in path name other = None
+
+-- the tag that a line of a listing of the holds of the snapshot of this name at this path spells
+abbrev pub hold_of : List ℕ → List ℕ → List ℕ → Option (List ℕ)
+hold_of path name line = hold_in path name (columns line)

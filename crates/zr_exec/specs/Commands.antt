@@ -1,26 +1,36 @@
-use Rattle.std.specs.Prelude.{◌==◌, ℕ, ◌-◌, Bool, List, [], ◌∷◌, Option, find, length, nat_eq, slice_index_or}
-use Rattle.std.specs.Cmp.Lexicographic.{pointwise}
-use Rattle.std.specs.List.{after_first, before_first}
-use Rattle.zr_cmd.specs.Words.{words_of}
+use Rattle.std.specs.Prelude.{ℕ, List, Option, Some, None}
+use Rattle.zr_cmd.specs.Calls.{call_of}
+use Rattle.zr_cmd.specs.declared.forms.Call.{Call}
+use Rattle.zr_cmd.specs.declared.forms.Call.TheVariants as call
+use Rattle.zr_world.specs.declared.command.Base.TheVariants as base
 use Rattle.zr_world.specs.declared.command.Cmd.{Cmd}
-use Rattle.zr_world.specs.declared.command.Cmd.TheVariants as cmd
+use Rattle.zr_world.specs.declared.command.Transfer.{Transfer}
+use Rattle.zr_world.specs.Plain.{no_guid}
 
--- the words are those of the command
-abbrev pub has_words : List (List ℕ) → Cmd → Bool
-has_words words command = pointwise (pointwise nat_eq) words (words_of command)
-
-abbrev pub is_at_sign : ℕ → Bool
-is_at_sign b = b == 64
-
-abbrev pub last_word : List (List ℕ) → List ℕ
-last_word words = slice_index_or words (length words - 1) []
-
--- a command of each kind, with the names that this word spells: a dataset's path, and a snapshot's full name
-abbrev pub commands_at : List ℕ → List Cmd
-commands_at word =
-    cmd.Sets ∷ cmd.Versions word
-    ∷ cmd.DestroySnap (before_first is_at_sign word) (after_first is_at_sign word) ∷ []
+-- the command that is one call
+abbrev pub command_in : Option Call → Option Cmd
+command_in (Some (call.One command)) = Some command
+command_in given = None
 
 -- the command whose words these are
 abbrev pub command_of : List (List ℕ) → Option Cmd
-command_of words = find (has_words words) (commands_at (last_word words))
+command_of words = command_in (call_of words)
+
+-- the transfer whose sending and receiving ends these calls are; they name no guids
+abbrev pub transfer_in : Option Call → Option Call → Option Transfer
+transfer_in (Some (call.SendFull source to)) (Some (call.Receive target force)) =
+    Some (record { source = source; to = to; guid = no_guid; base = base.Full; target = target; force = force })
+transfer_in (Some (call.SendFrom source mark to)) (Some (call.Receive target force)) =
+    Some (record {
+      source = source;
+      to = to;
+      guid = no_guid;
+      base = base.From mark no_guid;
+      target = target;
+      force = force;
+    })
+transfer_in send receive = None
+
+-- the transfer whose words these are
+abbrev pub transfer_of : List (List ℕ) → List (List ℕ) → Option Transfer
+transfer_of send receive = transfer_in (call_of send) (call_of receive)

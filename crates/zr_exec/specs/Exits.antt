@@ -1,5 +1,7 @@
 use Rattle.std.specs.Prelude.{◌≡◌, ◌≤◌, ℕ, Bool, true, false}
 use Rattle.zr_names.specs.Count.{Rose}
+use Rattle.zr_exec.specs.declared.spawn.PipeExit.{PipeExit}
+use Rattle.zr_exec.specs.declared.spawn.PipeExit.TheVariants as piped
 use Rattle.zr_exec.specs.declared.spawn.RunExit.{RunExit}
 use Rattle.zr_exec.specs.declared.spawn.RunExit.TheVariants.{Done, Nonzero, Failed, TooLong, NoMemory}
 
@@ -15,3 +17,14 @@ is_child_fault NoMemory = false
 pub record HasExitCause (before now : ℕ) (exit : RunExit) : Type 0 where
   pub later : before ≤ now
   pub rose : is_child_fault exit ≡ true → Rose before now
+
+-- an end of the pipe failed
+abbrev pub is_pipe_fault : PipeExit → Bool
+is_pipe_fault piped.Done = false
+is_pipe_fault piped.Failed = true
+is_pipe_fault piped.NoMemory = false
+
+-- the cause of a pipe's fault: the count of failed children never falls, and rises at each fault
+pub record HasPipeCause (before now : ℕ) (exit : PipeExit) : Type 0 where
+  pub later : before ≤ now
+  pub rose : is_pipe_fault exit ≡ true → Rose before now

@@ -3,6 +3,8 @@ pub mod Columns
 pub mod Commands
 pub mod Entries
 pub mod Exits
+pub mod Listed
+pub mod Piping
 pub mod Recording
 pub mod Rows
 pub mod Serving

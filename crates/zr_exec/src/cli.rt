@@ -1,16 +1,17 @@
 ghost use Rattle.std.specs.Prelude.{◌≡◌, ◌≤◌, ◌+◌, ◌<◌, ◌^◌, length};
-ghost use Rattle.zr_exec.specs.Answering.{IsAnswer, newlines, refusal_of};
+ghost use Rattle.zr_exec.specs.Answering.{IsAnswer, newlines, pipe_answer, refusal_of};
+ghost use Rattle.zr_exec.specs.Listed.{listed_by};
 ghost use Rattle.zr_world.specs.Answering.{Fits};
 
-use crate::spawn::{LISTING_LIMIT, RunExit, Spawn};
+use crate::spawn::{LISTING_LIMIT, PipeExit, RunExit, Spawn};
 use std::alloc::Global;
 use std::marker::Model;
-use zr_cmd::argv_of;
-use zr_listing::{ListFault, read_sets, read_versions};
+use zr_cmd::{Argv, argv_of};
+use zr_listing::{ListFault, read_holds, read_sets, read_versions};
 use zr_names::{NoMemory, Path, Rows, Unit};
 use zr_world::{Answer, Cmd, Reply, Zfs};
 
-/// A runner of ZFS commands that starts a child for each and reads what it writes. Contracts see it as its
+/// A runner of ZFS commands that starts a child for each, for a transfer two in a pipe, and reads what they write. Contracts see it as its
 /// runner of children.
 #[derive(Drop)]
 pub struct CliZfs<S> {
@@ -71,7 +72,7 @@ fn refused(fault: ListFault) -> Answer
 
 /// Reads what a child wrote that ended well.
 fn read_reply(alloc: Global, cmd: &Cmd, out: &[u8]) -> Answer
-    ensures answer { IsAnswer cmd.now RunExit.Done out.now result }
+    ensures answer { IsAnswer (listed_by cmd.now) RunExit.Done out.now result }
     ensures shape { Fits cmd.now result }
 {
     match cmd {
@@ -83,21 +84,41 @@ fn read_reply(alloc: Global, cmd: &Cmd, out: &[u8]) -> Answer
             Ok(rows) => Answer::Done(Reply::Versions(rows)),
             Err(fault) => refused(fault),
         },
-        Cmd::DestroySnap(_, _) => Answer::Done(Reply::Nothing),
+        Cmd::Holds(path, name) => match read_holds(alloc, path, name, out) {
+            Ok(tags) => Answer::Done(Reply::Holds(tags)),
+            Err(fault) => refused(fault),
+        },
+        Cmd::Hold(_, _, _, _)
+        | Cmd::Release(_, _, _, _)
+        | Cmd::Bookmark(_, _, _)
+        | Cmd::DestroySnap(_, _)
+        | Cmd::DestroyMark(_, _)
+        | Cmd::Transfer(_) => Answer::Done(Reply::Nothing),
     }
 }
 
 /// The answer to a command by its child's end and what it wrote.
 fn answer(alloc: Global, cmd: &Cmd, exit: RunExit, out: &[u8]) -> Answer
     requires { length out.now ≤ LISTING_LIMIT }
-    ensures answer { IsAnswer cmd.now exit out.now result }
+    ensures answer { IsAnswer (listed_by cmd.now) exit out.now result }
     ensures shape { Fits cmd.now result }
 {
     match (exit, cmd) {
         (RunExit::Done, _) => read_reply(alloc, cmd, out),
-        (RunExit::TooLong, Cmd::Sets | Cmd::Versions(_)) => cut(out),
+        (RunExit::TooLong, Cmd::Sets | Cmd::Versions(_) | Cmd::Holds(_, _)) => cut(out),
         (RunExit::TooLong | RunExit::Nonzero | RunExit::Failed, _) => Answer::Failed,
         (RunExit::NoMemory, _) => Answer::NoMemory,
+    }
+}
+
+/// The answer to a transfer by its pipe's end.
+fn piped(exit: PipeExit) -> Answer
+    ensures { result ≡ pipe_answer exit }
+{
+    match exit {
+        PipeExit::Done => Answer::Done(Reply::Nothing),
+        PipeExit::Failed => Answer::Failed,
+        PipeExit::NoMemory => Answer::NoMemory,
     }
 }
 
@@ -110,18 +131,23 @@ impl<S: Spawn> Zfs for CliZfs<S> {
 
     ghost told = { λ c. entries_of (S.told c) };
 
-    #[tactic(auto, using(crate::proofs::Answers::begin_told))]
+    #[tactic(auto, using(crate::proofs::Told::begin_told))]
     fn begin(&mut self, unit: &Unit, run: u64) -> Result<(), NoMemory> {
         self.spawn.begin(unit, run)
     }
 
     fn run(&mut self, cmd: &Cmd) -> Answer {
         let alloc = *self.program.allocator();
-        let Ok(argv) = argv_of(alloc, self.program.as_str(), cmd) else {
-            return Answer::NoMemory;
-        };
-        let mut out = Vec::new(alloc);
-        let exit = self.spawn.run(argv.as_slice(), &mut out);
-        answer(alloc, cmd, exit, out.as_slice())
+        match argv_of(alloc, self.program.as_str(), cmd) {
+            Ok(Argv::One(words)) => {
+                let mut out = Vec::new(alloc);
+                let exit = self.spawn.run(words.as_slice(), &mut out);
+                answer(alloc, cmd, exit, out.as_slice())
+            }
+            Ok(Argv::Pipe(send, receive)) => {
+                piped(self.spawn.pipe(send.as_slice(), receive.as_slice()))
+            }
+            Err(NoMemory) => Answer::NoMemory,
+        }
     }
 }

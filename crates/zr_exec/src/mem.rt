@@ -1,9 +1,10 @@
 ghost use Rattle.std.specs.Prelude.{◌≡◌, ◌++◌, ◌∷◌, [], IfOk, OnOk, OnErr, map, string_bytes};
-ghost use Rattle.zr_exec.specs.Recording.{call_line};
-ghost use Rattle.zr_exec.specs.Stored.{IsRecorded};
+ghost use Rattle.zr_exec.specs.Recording.{call_line, pipe_line};
+ghost use Rattle.zr_exec.specs.Stored.{IsRecorded, IsRecordedPipe};
 
+use crate::piping::serve_pipe;
 use crate::serving::{behind_program, serve};
-use crate::spawn::{Call, Line, RunExit, Spawn};
+use crate::spawn::{Call, Line, PipeExit, Piped, RunExit, Spawn};
 use std::alloc::{AllocError, Global};
 use std::marker::Model;
 use zr_names::{Bytes, NoMemory, Rows, Same, Unit};
@@ -41,8 +42,8 @@ impl MemSpawn {
     ghost use Rattle.std.specs.Prelude.{◌≡◌, []};
     ghost use Rattle.zr_world.specs.Pools.{IsWellFormed};
 
-    /// A runner whose n-th `run`, counted from 1, fails where `failing` names n. `is_well_formed` tests
-    /// pools.
+    /// A runner whose n-th `run` or `pipe`, counted together from 1, fails where `failing` names n.
+    /// `is_well_formed` tests pools.
     pub fn new(alloc: Global, pools: Pools, failing: Vec<Planned>) -> MemSpawn
         requires { IsWellFormed pools }
         ensures { result ≡ record {
@@ -130,6 +131,41 @@ fn recorded(
     }
 }
 
+fn pipe_line(
+    alloc: Global,
+    send: &[String],
+    receive: &[String],
+    exit: PipeExit,
+) -> Result<Line, AllocError>
+    ensures { IfOk result (λ line. line ≡ pipe_line (map string_bytes send.now) (map string_bytes receive.now) exit) }
+{
+    Ok(Line::Pipe(Piped {
+        send: words_of(alloc, send)?,
+        receive: words_of(alloc, receive)?,
+        exit,
+    }))
+}
+
+/// Puts a pipe into the record, or answers want of memory in place of its exit.
+fn recorded_pipe(
+    alloc: Global,
+    told: &mut Vec<Line>,
+    send: &[String],
+    receive: &[String],
+    exit: PipeExit,
+) -> PipeExit
+    ensures { IsRecordedPipe told.old.items told.new.items
+        (map string_bytes send.now) (map string_bytes receive.now) exit result }
+{
+    let Ok(line) = pipe_line(alloc, send, receive, exit) else {
+        return PipeExit::NoMemory;
+    };
+    match push(told, line) {
+        Ok(()) => exit,
+        Err(NoMemory) => PipeExit::NoMemory,
+    }
+}
+
 impl Spawn for MemSpawn {
     ghost use Rattle.std.specs.Prelude.{Some};
 
@@ -156,5 +192,21 @@ impl Spawn for MemSpawn {
             out,
         );
         recorded(self.alloc, &mut self.told, words, exit, out.as_slice())
+    }
+
+    fn pipe(&mut self, send: &[String], receive: &[String]) -> PipeExit {
+        self.calls = self.calls.saturating_add(1);
+        let plan = Planned::find(self.failing.as_slice(), self.calls);
+        let send = behind_program(send);
+        let receive = behind_program(receive);
+        let exit = serve_pipe(
+            self.alloc,
+            &mut self.pools,
+            &mut self.faults,
+            send,
+            receive,
+            plan,
+        );
+        recorded_pipe(self.alloc, &mut self.told, send, receive, exit)
     }
 }

@@ -1,13 +1,14 @@
 ghost use Rattle.std.specs.Prelude.{◌≡◌, ◌≤◌, [], IfOk, OnOk, drop, length, map, string_bytes};
 ghost use Rattle.zr_exec.specs.Exits.{HasExitCause};
+ghost use Rattle.zr_exec.specs.Listed.{listed_by};
 ghost use Rattle.zr_exec.specs.Serving.{AreFree, Does, DoesWords, IsReply};
 ghost use Rattle.zr_world.specs.Answering.{Fits};
 ghost use Rattle.zr_world.specs.Pools.{IsWellFormed};
 
 use crate::spawn::{LISTING_LIMIT, RunExit};
 use std::alloc::Global;
-use zr_cmd::{ArgvFault, read_argv};
-use zr_listing::{print_sets, print_versions};
+use zr_cmd::{ArgvFault, Call, read_argv};
+use zr_listing::{print_holds, print_sets, print_versions};
 use zr_names::NoMemory;
 use zr_world::{Answer, Cmd, Extent, Pools, Reply, act};
 
@@ -34,7 +35,7 @@ fn counted(faults: &mut u64, exit: RunExit) -> RunExit
 fn print(alloc: Global, cmd: &Cmd, reply: &Reply) -> Result<Vec<u8>, NoMemory>
     requires fits { Fits cmd.now (Answer.Done reply.now) }
     requires free { AreFree reply.now }
-    ensures { IfOk result (λ text. IsReply cmd.now text.items reply.now) }
+    ensures { IfOk result (λ text. IsReply (listed_by cmd.now) text.items reply.now) }
 {
     match (cmd, reply) {
         (_, Reply::Nothing) => Ok(Vec::new(alloc)),
@@ -42,7 +43,10 @@ fn print(alloc: Global, cmd: &Cmd, reply: &Reply) -> Result<Vec<u8>, NoMemory>
         (Cmd::Versions(path), Reply::Versions(rows)) => {
             print_versions(alloc, path, rows.as_slice())
         }
-        (Cmd::Sets | Cmd::DestroySnap(_, _), Reply::Versions(_)) => unreachable!(),
+        (Cmd::Holds(path, name), Reply::Holds(tags)) => {
+            print_holds(alloc, path, name, tags.as_slice())
+        }
+        (_, Reply::Versions(_) | Reply::Holds(_)) => unreachable!(),
     }
 }
 
@@ -120,7 +124,11 @@ pub fn serve(
 {
     out.clear();
     match read_argv(alloc, words) {
-        Ok(cmd) => serve_command(alloc, pools, faults, &cmd, plan, out),
+        Ok(Call::One(cmd)) => serve_command(alloc, pools, faults, &cmd, plan, out),
+        // one end of a transfer alone
+        Ok(Call::SendFull(_, _) | Call::SendFrom(_, _, _) | Call::Receive(_, _)) => {
+            counted(faults, RunExit::Nonzero)
+        }
         Err(ArgvFault::UnknownCommand | ArgvFault::BadWord(_)) => {
             counted(faults, RunExit::Nonzero)
         }

@@ -1,7 +1,7 @@
 ghost use Rattle.std.specs.Prelude.{◌≡◌, ◌≤◌, ℕ, [], ◌∷◌, List, Option, OnOk, OnErr, drop, length, map, string_bytes};
-ghost use Rattle.zr_exec.specs.Exits.{HasExitCause};
-ghost use Rattle.zr_exec.specs.Recording.{with_lines, Records};
-ghost use Rattle.zr_exec.specs.Serving.{Serves};
+ghost use Rattle.zr_exec.specs.Exits.{HasExitCause, HasPipeCause};
+ghost use Rattle.zr_exec.specs.Recording.{with_lines, Records, RecordsPipe};
+ghost use Rattle.zr_exec.specs.Serving.{Serves, ServesPipe};
 ghost use Rattle.zr_exec.specs.declared.spawn.Line.{Line as LineValue};
 ghost use Rattle.zr_exec.specs.declared.spawn.Line.TheVariants.{Begin};
 ghost use Rattle.zr_world.specs.declared.pools.Pools.{Pools as PoolsValue};
@@ -22,6 +22,16 @@ pub enum RunExit {
     NoMemory,
 }
 
+/// How the two children of a pipe ended.
+#[derive(Clone, Copy, Debug, PartialEq, Eq)]
+pub enum PipeExit {
+    /// Both by themselves, with status 0; all that the sending end wrote went into the pipe between them.
+    Done,
+    /// One of them did not start, or ended otherwise.
+    Failed,
+    NoMemory,
+}
+
 /// The most bytes of what a child writes that are kept.
 pub const LISTING_LIMIT: usize = 33_554_432;
 
@@ -31,6 +41,7 @@ pub enum Line {
     /// A run of a unit began, under this run number.
     Begin(Unit, u64),
     Call(Call),
+    Pipe(Piped),
 }
 
 /// A child that was started, by its words without the program's name, and how it ended.
@@ -41,7 +52,15 @@ pub struct Call {
     pub written: Bytes,
 }
 
-/// Runs children, one at a time. Nothing happens after the exit.
+/// A child whose output another one reads, each by its words without the program's name, and how they ended.
+#[derive(Debug, Drop)]
+pub struct Piped {
+    pub send: Rows<Bytes>,
+    pub receive: Rows<Bytes>,
+    pub exit: PipeExit,
+}
+
+/// Runs children, one at a time or two in a pipe. Nothing happens after the exit.
 pub trait Spawn {
     /// How many children failed; it stays at `u64::MAX` once there.
     ghost faults: { Self → ℕ };
@@ -69,4 +88,12 @@ pub trait Spawn {
             (drop 1 (map string_bytes argv.now)) result out.new.items }
         ensures pools { Serves (drop 1 (map string_bytes argv.now))
             (pools self.old) (pools self.new) result out.new.items };
+
+    /// Runs two programs, each named by its first word, the second one reading what the first one writes.
+    fn pipe(&mut self, send: &[String], receive: &[String]) -> PipeExit
+        ensures cause { HasPipeCause (faults self.old) (faults self.new) result }
+        ensures told { RecordsPipe (told self.old) (told self.new)
+            (drop 1 (map string_bytes send.now)) (drop 1 (map string_bytes receive.now)) result }
+        ensures pools { ServesPipe (drop 1 (map string_bytes send.now)) (drop 1 (map string_bytes receive.now))
+            (pools self.old) (pools self.new) result };
 }

@@ -1,12 +1,17 @@
 use super::*;
+
+mod transfers;
+
 use std::alloc::{AllocGlobal, Global};
 use std::process::Abort;
 use std::test::Fail;
 use zr_names::{
-    Guid, MarkName, Moment, NoMemory, Path, Rows, SnapName, Tag, Unit, Work, read_mark, read_path,
-    read_snap, read_tag,
+    Guid, JobName, MarkName, Moment, NoMemory, Path, Rows, SnapName, Tag, TagKind, Unit, Work,
+    read_job, read_mark, read_path, read_snap, read_tag,
 };
-use zr_world::{Answer, Cmd, Dataset, Extent, Planned, Pools, Reply, Version, VersionName, Zfs};
+use zr_world::{
+    Answer, Base, Cmd, Dataset, Extent, Planned, Pools, Reply, Transfer, Version, VersionName, Zfs,
+};
 
 fn path(rt: &impl Abort, alloc: Global, text: &[u8]) -> Path {
     read_path(alloc, text).expect(rt, "a path")
@@ -84,7 +89,7 @@ fn called<R: Abort>(rt: &R, spawn: &MemSpawn, words: &[&str], exit: RunExit, wri
     let told = spawn.told();
     assert_eq!(rt; told.len(), 1);
     match &told[0] {
-        Line::Begin(_, _) => panic!(rt; "no call"),
+        Line::Begin(_, _) | Line::Pipe(_) => panic!(rt; "no call"),
         Line::Call(call) => {
             assert_eq!(rt; call.words.len(), words.len());
             for (word, want) in call.words.as_slice().iter().zip(words.iter()) {
@@ -236,7 +241,7 @@ fn a_begun_run_is_recorded(rt: HostRuntime) -> Result<(), Fail> {
             assert!(rt; *begun == unit);
             assert_eq!(rt; *run, 7);
         }
-        Line::Call(_) => panic!(rt; "a call"),
+        Line::Call(_) | Line::Pipe(_) => panic!(rt; "a call"),
     }
     Ok(())
 }
@@ -274,6 +279,7 @@ fn kind_of(answer: &Answer) -> Kind {
         Answer::Done(Reply::Nothing) => Kind::Nothing,
         Answer::Done(Reply::Sets(rows)) => Kind::Rows(rows.len()),
         Answer::Done(Reply::Versions(rows)) => Kind::Rows(rows.len()),
+        Answer::Done(Reply::Holds(tags)) => Kind::Rows(tags.len()),
         Answer::Failed => Kind::Failed,
         Answer::Garbled(line) => Kind::Garbled(*line),
         Answer::NoMemory => Kind::NoMemory,
@@ -312,6 +318,15 @@ impl Spawn for Says {
             RunExit::Done | RunExit::Nonzero | RunExit::Failed | RunExit::NoMemory => self.exit,
         }
     }
+
+    fn pipe(&mut self, _send: &[String], _receive: &[String]) -> PipeExit {
+        self.faults = self.faults.saturating_add(1);
+        match self.exit {
+            RunExit::Done => PipeExit::Done,
+            RunExit::Nonzero | RunExit::Failed | RunExit::TooLong => PipeExit::Failed,
+            RunExit::NoMemory => PipeExit::NoMemory,
+        }
+    }
 }
 
 const SET: &[u8] = b"tank\t-\t-\n";
@@ -322,70 +337,150 @@ const VERSION: &[u8] = b"tank@a\t1\t2\t3\t0\n";
 
 const OTHER_VERSION: &[u8] = b"tank@a\t1\t2\t3\t0\ntank/b@a\t1\t2\t3\t0\n";
 
-/// What a child wrote, how it ended, and what the listing of datasets, the listing of the versions of
-/// `tank` and the destroy of `tank@a` are answered.
-const ENDS: [(&[u8], RunExit, [Kind; 3]); 8] = [
-    (
-        b"",
-        RunExit::Done,
-        [Kind::Rows(0), Kind::Rows(0), Kind::Nothing],
-    ),
+const HOLD: &[u8] = b"tank@a\tone\tSat Jan 1 10:00 2022\ntank@a\ttwo\t0\n";
+
+const SAME_HOLD: &[u8] = b"tank@a\tone\t0\ntank@a\tone\t0\n";
+
+/// What a child wrote, how it ended, and what the listing of datasets, of the versions of `tank` and of the holds of
+/// `tank@a` are answered.
+const ENDS: [(&[u8], RunExit, [Kind; 3]); 10] = [
+    (b"", RunExit::Done, [Kind::Rows(0); 3]),
     (
         SET,
         RunExit::Done,
-        [Kind::Rows(1), Kind::Garbled(1), Kind::Nothing],
+        [Kind::Rows(1), Kind::Garbled(1), Kind::Garbled(1)],
     ),
     (
         CUT_SET,
         RunExit::Done,
-        [Kind::Garbled(2), Kind::Garbled(1), Kind::Nothing],
+        [Kind::Garbled(2), Kind::Garbled(1), Kind::Garbled(1)],
     ),
     (
         VERSION,
         RunExit::Done,
-        [Kind::Garbled(1), Kind::Rows(1), Kind::Nothing],
+        [Kind::Garbled(1), Kind::Rows(1), Kind::Garbled(1)],
     ),
     (
         OTHER_VERSION,
         RunExit::Done,
-        [Kind::Garbled(1), Kind::Garbled(2), Kind::Nothing],
+        [Kind::Garbled(1), Kind::Garbled(2), Kind::Garbled(1)],
     ),
     (
-        SET,
-        RunExit::Nonzero,
-        [Kind::Failed, Kind::Failed, Kind::Failed],
+        HOLD,
+        RunExit::Done,
+        [Kind::Garbled(1), Kind::Garbled(1), Kind::Rows(2)],
     ),
     (
-        b"",
-        RunExit::Failed,
-        [Kind::Failed, Kind::Failed, Kind::Failed],
+        SAME_HOLD,
+        RunExit::Done,
+        [Kind::Garbled(1), Kind::Garbled(1), Kind::Garbled(2)],
     ),
-    (
-        b"",
-        RunExit::NoMemory,
-        [Kind::NoMemory, Kind::NoMemory, Kind::NoMemory],
-    ),
+    (SET, RunExit::Nonzero, [Kind::Failed; 3]),
+    (b"", RunExit::Failed, [Kind::Failed; 3]),
+    (b"", RunExit::NoMemory, [Kind::NoMemory; 3]),
 ];
 
-#[test]
-fn answers_by_end_and_bytes(rt: HostRuntime) -> Result<(), Fail> {
+/// Commands that list nothing.
+#[derive(Clone, Copy, Debug)]
+enum Silent {
+    Hold,
+    Release,
+    Bookmark,
+    DestroySnap,
+    DestroyMark,
+    Transfer,
+}
+
+const SILENT: [Silent; 6] = [
+    Silent::Hold,
+    Silent::Release,
+    Silent::Bookmark,
+    Silent::DestroySnap,
+    Silent::DestroyMark,
+    Silent::Transfer,
+];
+
+fn job(rt: &impl Abort, alloc: Global) -> JobName {
+    read_job(alloc, b"j").expect(rt, "a job's name")
+}
+
+fn mark(rt: &impl Abort, alloc: Global) -> MarkName {
+    read_mark(alloc, b"zrepl_CURSOR_G_000000000000000b_J_j").expect(rt, "a bookmark's name")
+}
+
+/// A transfer of a snapshot of `tank` into `back/tank`.
+fn transfer<R: Abort + AllocGlobal>(rt: &R, to: &[u8], guid: u64, base: Base) -> Cmd {
     let alloc = rt.alloc();
-    let listed = Cmd::Versions(path(&rt, alloc, b"tank"));
-    let destroyed = destroy(&rt, b"a");
-    for (bytes, exit, [sets, versions, nothing]) in ENDS {
-        let spawn = Says {
-            bytes,
-            exit,
-            faults: 0,
-        };
-        let mut zfs = CliZfs::new(spawn, String::from_str(alloc, "zfs")?);
-        assert_eq!(rt; kind_of(&zfs.run(&Cmd::Sets)), sets, "{exit:?} {bytes:?}");
-        assert_eq!(rt; kind_of(&zfs.run(&listed)), versions, "{exit:?} {bytes:?}");
-        assert_eq!(rt;
-            kind_of(&zfs.run(&destroyed)),
-            nothing,
-            "{exit:?} {bytes:?}"
-        );
+    Cmd::Transfer(Transfer {
+        source: path(rt, alloc, b"tank"),
+        to: snap(rt, alloc, to),
+        guid: Guid(guid),
+        base,
+        target: path(rt, alloc, b"back/tank"),
+        force: false,
+    })
+}
+
+fn silent_cmd<R: Abort + AllocGlobal>(rt: &R, which: Silent) -> Cmd {
+    let alloc = rt.alloc();
+    let tank = path(rt, alloc, b"tank");
+    let a = snap(rt, alloc, b"a");
+    match which {
+        Silent::Hold => Cmd::Hold(TagKind::Step, job(rt, alloc), tank, a),
+        Silent::Release => Cmd::Release(TagKind::Last, job(rt, alloc), tank, a),
+        Silent::Bookmark => Cmd::Bookmark(tank, VersionName::Snap(a), mark(rt, alloc)),
+        Silent::DestroySnap => Cmd::DestroySnap(tank, a),
+        Silent::DestroyMark => Cmd::DestroyMark(tank, mark(rt, alloc)),
+        Silent::Transfer => transfer(rt, b"a", 11, Base::Full),
+    }
+}
+
+fn runner_of<R: AllocGlobal>(
+    rt: &R,
+    bytes: &'static [u8],
+    exit: RunExit,
+) -> Result<CliZfs<Says>, Fail> {
+    let spawn = Says {
+        bytes,
+        exit,
+        faults: 0,
+    };
+    Ok(CliZfs::new(spawn, String::from_str(rt.alloc(), "zfs")?))
+}
+
+/// The listings of datasets, of the versions of `tank` and of the holds of `tank@a` are answered so.
+fn listings_are<R: Abort + AllocGlobal>(rt: &R, zfs: &mut CliZfs<Says>, want: [Kind; 3]) {
+    let alloc = rt.alloc();
+    let [of_sets, of_versions, of_holds] = want;
+    assert_eq!(rt; kind_of(&zfs.run(&Cmd::Sets)), of_sets);
+    let versions = Cmd::Versions(path(rt, alloc, b"tank"));
+    assert_eq!(rt; kind_of(&zfs.run(&versions)), of_versions);
+    let holds = Cmd::Holds(path(rt, alloc, b"tank"), snap(rt, alloc, b"a"));
+    assert_eq!(rt; kind_of(&zfs.run(&holds)), of_holds);
+}
+
+#[test]
+fn listings_by_end_and_bytes(rt: HostRuntime) -> Result<(), Fail> {
+    for (bytes, exit, want) in ENDS {
+        let mut zfs = runner_of(&rt, bytes, exit)?;
+        listings_are(&rt, &mut zfs, want);
+    }
+    Ok(())
+}
+
+#[test]
+fn other_commands_by_end(rt: HostRuntime) -> Result<(), Fail> {
+    for (exit, want) in [
+        (RunExit::Done, Kind::Nothing),
+        (RunExit::Nonzero, Kind::Failed),
+        (RunExit::Failed, Kind::Failed),
+        (RunExit::NoMemory, Kind::NoMemory),
+    ] {
+        let mut zfs = runner_of(&rt, b"any bytes", exit)?;
+        for which in SILENT {
+            let cmd = silent_cmd(&rt, which);
+            assert_eq!(rt; kind_of(&zfs.run(&cmd)), want, "{exit:?} {which:?}");
+        }
     }
     Ok(())
 }

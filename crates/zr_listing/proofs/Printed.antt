@@ -8,17 +8,17 @@ use Rattle.std.proofs.lemmas.Fmt.{decimal_by_steps}
 use Rattle.std.proofs.lemmas.List.Elements.{All-from_recursion, recursion_from_All, All-more}
 use Rattle.std.proofs.lemmas.List.{take_all, take_more, flat_map_more}
 use Rattle.std.proofs.lemmas.List.Splits.{slice_split_none, slice_split_at}
-use Rattle.zr_names.specs.Names.{IsName, is_name_byte, path_is_bad, name_is_bad, token_is_bad, slash_is_bad, begins_component, is_dots}
+use Rattle.zr_names.specs.Names.{IsName, is_name_byte, path_is_bad, name_is_bad, tag_is_bad, token_is_bad, slash_is_bad, begins_component, is_dots}
 use Rattle.zr_names.specs.declared.names.TheConstants.{PATH_LIMIT, NAME_LIMIT, TOKEN_LIMIT}
 use Rattle.zr_world.specs.Pools.{is_mark}
 use Rattle.zr_world.specs.declared.version.SetRow.{SetRow}
 use Rattle.zr_world.specs.declared.version.VersionName.{VersionName}
 use Rattle.zr_world.specs.declared.version.VersionName.TheVariants.{Snap, Mark}
 use Rattle.zr_world.specs.declared.version.VersionRow.{VersionRow}
-use Rattle.zr_listing.specs.Columns.{columns, full_name, IsSetLine, IsVersionLine, IsToken, IsSuffix, IsRefs}
+use Rattle.zr_listing.specs.Columns.{columns, full_name, IsSetLine, IsVersionLine, IsHoldLine, IsToken, IsSuffix, IsRefs}
 use Rattle.zr_listing.specs.Lines.{lines_of, Lines}
 use Rattle.zr_listing.specs.Order.{bare_name}
-use Rattle.zr_listing.specs.Printing.{ended, with_tabs, set_line, flag_text, token_text, refs_text, version_line, IsSetRow, IsVersionRow}
+use Rattle.zr_listing.specs.Printing.{ended, with_tabs, set_line, flag_text, token_text, refs_text, version_line, hold_line, IsSetRow, IsVersionRow}
 
 -- no byte is a control character
 abbrev pub ArePlain : List ℕ → Type 0
@@ -28,11 +28,15 @@ plain-append : (xs ys : List ℕ) → ArePlain xs → ArePlain ys → ArePlain (
 plain-append [] ys p q = q
 plain-append (x ∷ xs) ys p q = (p.0, plain-append xs ys p.1 q)
 
+-- what holds of the byte at each place
+from-places : (P : ℕ → Type 0) (xs : List ℕ) → ((k : ℕ) → k < length xs → P (slice_index xs k)) → AllByRecursion P xs
+from-places P [] h = tt
+from-places P (x ∷ xs) h =
+    let first : P x = h 0 (omega arith) in
+    (first, from-places P xs (λ k inside. h (suc k) (omega arith)))
+
 plain-from : (xs : List ℕ) → ((k : ℕ) → k < length xs → 32 ≤ slice_index xs k) → ArePlain xs
-plain-from [] h = tt
-plain-from (x ∷ xs) h =
-    let first : 32 ≤ x = h 0 (omega arith) in
-    (first, plain-from xs (λ k inside. h (suc k) (omega arith)))
+plain-from xs h = from-places (λ b. 32 ≤ b) xs h
 
 -- a text lacks the byte
 abbrev Lacks : ℕ → List ℕ → Type 0
@@ -194,6 +198,35 @@ version_line-spelled path row named valid free =
         is_refs = refs-spells row.name row.refs valid.refs free;
       };
       lacks = lacks-joined full numbers (plain-lacks 10 full (omega arith) full_plain) (all-lack 10 numbers (omega arith) numbers_plain);
+    }
+
+or-false : (x y : Bool) → (x || y) ≡ false → (x ≡ false) × (y ≡ false)
+or-false false y e = (refl, e)
+or-false true y e = cc
+
+tag-lacks_tab : (tag : List ℕ) → IsName tag_is_bad NAME_LIMIT tag → Lacks 9 tag
+tag-lacks_tab tag name = from-places (λ b. (b == 9) ≡ false) tag (λ k inside.
+    (or-false (slice_index tag k == 9) (slice_index tag k == 10) (name.no_place_bad k inside)).0)
+
+tag-lacks_newline : (tag : List ℕ) → IsName tag_is_bad NAME_LIMIT tag → Lacks 10 tag
+tag-lacks_newline tag name = from-places (λ b. (b == 10) ≡ false) tag (λ k inside.
+    (or-false (slice_index tag k == 9) (slice_index tag k == 10) (name.no_place_bad k inside)).1)
+
+pub hold_line-spelled : (path snap tag : List ℕ) → IsName path_is_bad PATH_LIMIT path → IsName name_is_bad NAME_LIMIT snap → IsName tag_is_bad NAME_LIMIT tag → Spelled (IsHoldLine path snap) (hold_line path snap tag) tag
+hold_line-spelled path snap tag path_named snap_named tag_named =
+    let full = path ++ 64 ∷ snap in
+    let full_plain : ArePlain full = plain-append path (64 ∷ snap) (path-plain path path_named) (lit≤ tt, name-plain snap snap_named) in
+    record {
+      spelled = record {
+        full = full;
+        column = tag;
+        date = codes "0";
+        spelled = columns-joined full (tag ∷ codes "0" ∷ []) (plain-lacks 9 full (omega arith) full_plain) (tag-lacks_tab tag tag_named, ((refl, tt), tt));
+        is_full = refl;
+        is_tag = (refl, tag_named);
+        not_empty = lit≤ tt;
+      };
+      lacks = lacks-joined full (tag ∷ codes "0" ∷ []) (plain-lacks 10 full (omega arith) full_plain) (tag-lacks_newline tag tag_named, ((refl, tt), tt));
     }
 
 -- printed rows are a listing of them

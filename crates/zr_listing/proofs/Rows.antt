@@ -9,7 +9,7 @@ use Rattle.zr_world.specs.declared.version.SetRow.{SetRow}
 use Rattle.zr_world.specs.declared.version.VersionName.{VersionName}
 use Rattle.zr_world.specs.declared.version.VersionName.TheVariants.{Snap, Mark}
 use Rattle.zr_world.specs.declared.version.VersionRow.{VersionRow}
-use Rattle.zr_listing.specs.Columns.{full_name, columns, IsToken, IsSetLine, IsSuffix, IsVersionName, IsNumber, IsRefs, IsVersionLine}
+use Rattle.zr_listing.specs.Columns.{full_name, columns, IsToken, IsSetLine, IsSuffix, IsVersionName, IsNumber, IsRefs, IsVersionLine, IsHoldLine}
 use Rattle.zr_listing.specs.Reading.{Finds}
 use Rattle.zr_listing.specs.declared.faults.LineFault.{LineFault}
 use Rattle.zr_listing.specs.declared.faults.LineFault.TheVariants as fault
@@ -125,3 +125,10 @@ full_name-one path (Snap n) (Snap m) e = ap Snap (tail-same 64 64 n m (append_ca
 full_name-one path (Snap n) (Mark m) e = absurd (at-no-hash (head-same 64 35 n m (append_cancel_left path (64 ∷ n) (35 ∷ m) e)))
 full_name-one path (Mark n) (Snap m) e = absurd (at-no-hash (sym (head-same 35 64 n m (append_cancel_left path (35 ∷ n) (64 ∷ m) e))))
 full_name-one path (Mark n) (Mark m) e = ap Mark (tail-same 35 35 n m (append_cancel_left path (35 ∷ n) (35 ∷ m) e))
+
+-- a line spells one tag at most
+pub IsHoldLine-one : (path name line : List ℕ) (a b : List ℕ) → IsHoldLine path name line a → IsHoldLine path name line b → a ≡ b
+IsHoldLine-one path name line a b p q =
+    let spelled : p.full ∷ p.column ∷ p.date ∷ [] ≡ q.full ∷ q.column ∷ q.date ∷ [] = sym p.spelled ∙ q.spelled in
+    let same : p.column ≡ q.column = cc in
+    sym p.is_tag.0 ∙ same ∙ q.is_tag.0

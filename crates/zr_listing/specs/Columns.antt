@@ -2,7 +2,7 @@ use Rattle.std.specs.Prelude.{◌≡◌, ◌==◌, ◌&&◌, ◌||◌, ℕ, ◌<
 use Rattle.std.specs.List.{slice_split}
 use Rattle.std.specs.Cmp.Lexicographic.{pointwise}
 use Rattle.std.specs.Fmt.{decimal}
-use Rattle.zr_names.specs.Names.{IsName, path_is_bad, name_is_bad, token_is_bad}
+use Rattle.zr_names.specs.Names.{IsName, path_is_bad, name_is_bad, tag_is_bad, token_is_bad}
 use Rattle.zr_names.specs.declared.names.TheConstants.{PATH_LIMIT, NAME_LIMIT, TOKEN_LIMIT}
 use Rattle.zr_world.specs.declared.version.SetRow.{SetRow}
 use Rattle.zr_world.specs.declared.version.VersionName.{VersionName}
@@ -86,3 +86,18 @@ pub record IsVersionLine (asked : List ℕ) (line : List ℕ) (row : VersionRow)
   pub is_txg : IsNumber txg row.txg
   pub is_creation : IsNumber creation row.creation
   pub is_refs : IsRefs row.name refs row.refs
+
+-- the column spells the tag of a hold
+abbrev pub IsTag : List ℕ → List ℕ → Type 0
+IsTag column tag = (column ≡ tag) × IsName tag_is_bad NAME_LIMIT tag
+
+-- a line of a listing of the holds of the snapshot of this name at this path: its full name; the tag; a column that is
+-- not empty
+pub record IsHoldLine (path name : List ℕ) (line : List ℕ) (tag : List ℕ) : Type 0 where
+  pub full : List ℕ
+  pub column : List ℕ
+  pub date : List ℕ
+  pub spelled : columns line ≡ full ∷ column ∷ date ∷ []
+  pub is_full : full ≡ full_name path (Snap name)
+  pub is_tag : IsTag column tag
+  pub not_empty : 0 < length date

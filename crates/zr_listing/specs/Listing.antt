@@ -1,5 +1,5 @@
-use Rattle.std.specs.Prelude.{List, ℕ, Result, Ok, Err, IsPermutation, ⊤}
-use Rattle.zr_listing.specs.Columns.{IsSetLine, IsVersionLine}
+use Rattle.std.specs.Prelude.{◌≢◌, List, ℕ, Result, Ok, Err, AllPairs, IsPermutation, ⊤}
+use Rattle.zr_listing.specs.Columns.{IsSetLine, IsVersionLine, IsHoldLine}
 use Rattle.zr_listing.specs.Lines.{Lines}
 use Rattle.zr_listing.specs.declared.faults.ListFault.{ListFault}
 use Rattle.zr_listing.specs.declared.faults.ListFault.TheVariants as fault
@@ -25,3 +25,8 @@ pub record IsVersionListing (path : List ℕ) (bytes : List ℕ) (rows : List Ve
   pub lines : Lines (IsVersionLine path) bytes listed
   pub same_rows : IsPermutation listed rows
   pub in_order : IsVersionList rows
+
+-- the bytes list the holds of the snapshot of this name at this path, in this order: a line for each, and no tag twice
+pub record IsHoldListing (path name : List ℕ) (bytes : List ℕ) (tags : List (List ℕ)) : Type 0 where
+  pub lines : Lines (IsHoldLine path name) bytes tags
+  pub tags_differ : AllPairs (λ a b. a ≢ b) tags

@@ -37,6 +37,10 @@ version_line path row =
     with_tabs (full_name path row.name ∷ decimal row.guid.0 ∷ decimal row.txg ∷ decimal row.creation
     ∷ refs_text row.name row.refs ∷ [])
 
+-- how a hold of the snapshot of this name at this path is printed
+abbrev pub hold_line : List ℕ → List ℕ → List ℕ → List ℕ
+hold_line path name tag = with_tabs (full_name path (Snap name) ∷ tag ∷ codes "0" ∷ [])
+
 -- with a newline at the end
 abbrev pub ended : List ℕ → List ℕ
 ended line = line ++ 10 ∷ []

@@ -31,26 +31,28 @@ pub(crate) fn first_column(line: &[u8]) -> &[u8]
     }
 }
 
-/// The columns of a line of datasets.
-#[derive(Clone, Copy)]
-pub(crate) struct SetColumns<'a> {
-    pub(crate) path: &'a [u8],
-    pub(crate) flag: &'a [u8],
-    pub(crate) token: &'a [u8],
+/// The second column of a line.
+pub(crate) fn second_column(line: &[u8]) -> &[u8]
+    ensures { (others : List (List ℕ)) (first column : List ℕ) → columns line.now ≡ first ∷ column ∷ others → result.now ≡ column }
+{
+    match cut(line, b'\t') {
+        Some((_, others)) => first_column(others),
+        None => line,
+    }
 }
 
 /// The three columns of a line.
 #[tactic(auto, using(crate::proofs::Cutting::length_parted))]
-pub(crate) fn set_columns(line: &[u8]) -> Option<SetColumns<'_>>
-    ensures some { IfSome result (λ c. columns line.now ≡ c.path.now ∷ c.flag.now ∷ c.token.now ∷ []) }
+pub(crate) fn three_columns(line: &[u8]) -> Option<(&[u8], &[u8], &[u8])>
+    ensures some { IfSome result (λ c. columns line.now ≡ c.0.now ∷ c.1.now ∷ c.2.now ∷ []) }
     ensures none { IfNone result (length (columns line.now) ≢ 3) }
 {
-    let (path, rest) = cut(line, b'\t')?;
-    let (flag, token) = cut(rest, b'\t')?;
-    if cut(token, b'\t').is_some() {
+    let (first, rest) = cut(line, b'\t')?;
+    let (second, third) = cut(rest, b'\t')?;
+    if cut(third, b'\t').is_some() {
         return None;
     }
-    Some(SetColumns { path, flag, token })
+    Some((first, second, third))
 }
 
 /// Whether the text has the front of a printed number: no sign, and a zero only alone.
@@ -93,11 +95,7 @@ pub(crate) fn version_columns(line: &[u8]) -> Option<VersionColumns<'_>>
 {
     let (name, rest) = cut(line, b'\t')?;
     let (guid, rest) = cut(rest, b'\t')?;
-    let SetColumns {
-        path: txg,
-        flag: creation,
-        token: refs,
-    } = set_columns(rest)?;
+    let (txg, creation, refs) = three_columns(rest)?;
     Some(VersionColumns {
         name,
         guid,

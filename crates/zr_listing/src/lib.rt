@@ -1,13 +1,16 @@
-//! The listings of datasets, and of the snapshots and bookmarks of one dataset, as `zfs list -H -p` prints them.
+//! The listings of datasets, and of the snapshots and bookmarks of one dataset, as `zfs list -H -p` prints them, and of
+//! the holds of one snapshot, as `zfs holds -H` does.
 #![tactic(auto)]
 
 pub use faults::ListFault;
-pub use print::{print_sets, print_versions};
+pub use holds::read_holds;
+pub use print::{print_holds, print_sets, print_versions};
 pub use sets::read_sets;
 pub use versions::read_versions;
 
 mod columns;
 pub mod faults;
+pub mod holds;
 mod lines;
 pub mod print;
 pub mod sets;

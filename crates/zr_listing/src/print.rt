@@ -1,12 +1,13 @@
-ghost use Rattle.std.specs.Prelude.{◌≡◌, ◌∷◌, ◌++◌, IfOk, IfSome, OnOk, flat_map};
+ghost use Rattle.std.specs.Prelude.{◌≡◌, ◌≢◌, ◌∷◌, ◌++◌, AllPairs, IfOk, IfSome, OnOk, flat_map};
 ghost use Rattle.std.specs.Fmt.{decimal};
-ghost use Rattle.zr_names.specs.Names.{IsName, name_is_bad, token_is_bad};
+ghost use Rattle.zr_names.specs.Names.{IsName, name_is_bad, tag_is_bad, token_is_bad};
 ghost use Rattle.zr_names.specs.declared.names.TheConstants.{NAME_LIMIT, TOKEN_LIMIT};
 ghost use Rattle.zr_listing.specs.Columns.{full_name};
 ghost use Rattle.zr_listing.specs.Order.{bare_name};
-ghost use Rattle.zr_listing.specs.Listing.{IsSetListing, IsVersionListing};
+ghost use Rattle.zr_listing.specs.Listing.{IsHoldListing, IsSetListing, IsVersionListing};
 ghost use Rattle.zr_listing.specs.Printing.{
   ended,
+  hold_line,
   IsSetRow,
   IsVersionRow,
   MarksAreFree,
@@ -18,7 +19,7 @@ ghost use Rattle.zr_listing.specs.Printing.{
 ghost use Rattle.zr_world.specs.Pools.{IsSetList, IsVersionList};
 
 use std::alloc::{AllocError, Global};
-use zr_names::{NoMemory, Path, TokenText};
+use zr_names::{NoMemory, Path, SnapName, Tag, TokenText};
 use zr_world::{SetRow, VersionName, VersionRow};
 
 /// Prints a tab and a number.
@@ -124,6 +125,38 @@ pub fn print_versions(alloc: Global, path: &Path, rows: &[VersionRow]) -> Result
     let dataset = path.as_bytes();
     for row in rows {
         push_version(alloc, &mut out, dataset, row)?;
+    }
+    Ok(out)
+}
+
+fn push_hold(out: &mut Vec<u8>, path: &[u8], snap: &[u8], tag: &Tag) -> Result<(), AllocError>
+    ensures text { OnOk result (out.new.items ≡ out.old.items ++ ended (hold_line path.now snap.now tag.now)) }
+    ensures valid { OnOk result (IsName tag_is_bad NAME_LIMIT tag.now) }
+{
+    out.extend_from_slice(path)?;
+    out.push(b'@')?;
+    out.extend_from_slice(snap)?;
+    out.push(b'\t')?;
+    out.extend_from_slice(tag.as_bytes())?;
+    out.extend_from_slice(b"\t0\n")
+}
+
+/// Prints a listing of the holds of the snapshot of this name at this path, `0` in place of each date.
+pub fn print_holds(
+    alloc: Global,
+    path: &Path,
+    snap: &SnapName,
+    tags: &[Tag],
+) -> Result<Vec<u8>, NoMemory>
+    ensures text { IfOk result (λ text. text.items ≡ flat_map (λ tag. ended (hold_line path.now snap.now tag)) tags.now) }
+    ensures read_back { IfOk result (λ text.
+        AllPairs (λ a b. a ≢ b) tags.now → IsHoldListing path.now snap.now text.items tags.now) }
+{
+    let mut out = Vec::new(alloc);
+    let dataset = path.as_bytes();
+    let name = snap.as_bytes();
+    for tag in tags {
+        push_hold(&mut out, dataset, name, tag)?;
     }
     Ok(out)
 }

@@ -8,7 +8,7 @@ ghost use Rattle.zr_listing.specs.Listing.{IsGarbled, IsSetListing};
 ghost use Rattle.zr_listing.specs.Reading.{Finds};
 ghost use Rattle.zr_world.specs.Pools.{IsSetList};
 
-use crate::columns::{first_column, set_columns};
+use crate::columns::{first_column, three_columns};
 use crate::faults::{LineFault, ListFault};
 use crate::lines::{Kind, read_lines};
 use std::alloc::Global;
@@ -36,14 +36,14 @@ fn token_of(alloc: Global, column: &[u8]) -> Result<Option<TokenText>, LineFault
 pub(crate) fn set_row(alloc: Global, line: &[u8]) -> Result<SetRow, LineFault>
     ensures { Finds (IsSetLine line.now) result }
 {
-    let columns = set_columns(line).ok_or(LineFault::Bad)?;
-    if columns.flag.is_empty() {
+    let (path, flag, token) = three_columns(line).ok_or(LineFault::Bad)?;
+    if flag.is_empty() {
         return Err(LineFault::Bad);
     }
     Ok(SetRow {
-        path: path_of(alloc, columns.path)?,
-        placeholder: columns.flag == b"on".as_slice(),
-        token: token_of(alloc, columns.token)?,
+        path: path_of(alloc, path)?,
+        placeholder: flag == b"on".as_slice(),
+        token: token_of(alloc, token)?,
     })
 }
 

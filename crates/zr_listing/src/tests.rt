@@ -2,7 +2,7 @@ use super::*;
 use std::alloc::Global;
 use std::process::Abort;
 use std::test::Fail;
-use zr_names::{Path, read_path};
+use zr_names::{Path, read_path, read_snap};
 use zr_world::{SetRow, VersionName, VersionRow};
 
 /// What a listing reads as: so many rows, or bad at a line.
@@ -88,6 +88,36 @@ const VERSIONS: [(&[u8], Want); 37] = [
     ),
 ];
 
+// The same for the holds of `tank/a@s`.
+const HOLDS: [(&[u8], Want); 26] = [
+    (b"", Ok(0)),
+    (b"\n", Err(1)),
+    (b"tank/a@s\tx\tFri Nov 27 10:00 2026\n", Ok(1)),
+    (b"tank/a@s\tx\t-\ntank/a@s\ty\t-\n", Ok(2)),
+    (b"tank/a@s\tback up\t-\n", Ok(1)),
+    (b"tank/a@s\t\xff\x00\r\t\xfe\x00\r\n", Ok(1)),
+    (b"tank/a@s\tx\t-\ntank/a@s\tx\t0\n", Err(2)),
+    (b"tank/a@s\tx\t-\ntank/a@s\ty\t-\ntank/a@s\tx\t-\n", Err(3)),
+    (b"tank/a@s\tx\t-\ntank/a@s\tx \t-\n", Ok(2)),
+    (b"tank/a@t\tx\t-\n", Err(1)),
+    (b"tank/a@ss\tx\t-\n", Err(1)),
+    (b"tank/a@\tx\t-\n", Err(1)),
+    (b"tank/a#s\tx\t-\n", Err(1)),
+    (b"tank/a\tx\t-\n", Err(1)),
+    (b"tank/b@s\tx\t-\n", Err(1)),
+    (b"tank/aa@s\tx\t-\n", Err(1)),
+    (b"tank/a@s\tx\t-\ntank/a@t\ty\t-\n", Err(2)),
+    (b"tank/a@s\tx\t\n", Err(1)),
+    (b"tank/a@s\t\t-\n", Err(1)),
+    (b"\tx\t-\n", Err(1)),
+    (b"tank/a@s\tx\n", Err(1)),
+    (b"tank/a@s\tx\t-\t\n", Err(1)),
+    (b"tank/a@s\tx\t-\t-\n", Err(1)),
+    (b"tank/a@s\tx\t-", Err(1)),
+    (b"tank/a@s\tx\t-\ntank/a@s\ty\t-", Err(2)),
+    (b"tank/a@s\tx\t-\n\n", Err(2)),
+];
+
 fn path(rt: &impl Abort, alloc: Global, text: &str) -> Path {
     read_path(alloc, text.as_bytes()).expect(rt, "a path")
 }
@@ -102,6 +132,11 @@ fn listings_with_one_byte_changed(rt: HostRuntime) {
     let asked = path(&rt, alloc, "tank/a");
     for (bytes, want) in VERSIONS {
         let read = read_versions(alloc, &asked, bytes).map(|rows| rows.len());
+        assert_eq!(rt; read, want.map_err(ListFault::Garbled), "{bytes:?}");
+    }
+    let snap = read_snap(alloc, b"s").expect(&rt, "a name");
+    for (bytes, want) in HOLDS {
+        let read = read_holds(alloc, &asked, &snap, bytes).map(|tags| tags.len());
         assert_eq!(rt; read, want.map_err(ListFault::Garbled), "{bytes:?}");
     }
 }
@@ -148,5 +183,24 @@ fn rows_of_versions(rt: HostRuntime) -> Result<(), Fail> {
     );
     assert_eq!(rt; rows[2].refs, 0);
     assert!(rt; matches!(rows[2].name, VersionName::Mark(_)));
+    Ok(())
+}
+
+/// The tags in the order of the lines, and the same printed, without the dates.
+#[test]
+fn tags_of_holds(rt: HostRuntime) -> Result<(), Fail> {
+    let alloc = rt.alloc();
+    let asked = path(&rt, alloc, "tank/a");
+    let snap = read_snap(alloc, b"s").expect(&rt, "a name");
+    let bytes =
+        b"tank/a@s\tzrepl_STEP_J_prod\tFri Nov 27 10:00 2026\ntank/a@s\tback up\tThu Nov 26  9:30 2026\n";
+    let tags = read_holds(alloc, &asked, &snap, bytes)?;
+    let tags = tags.as_slice();
+    assert_eq!(rt; tags.len(), 2);
+    assert_eq!(rt; tags[0].as_bytes(), b"zrepl_STEP_J_prod".as_slice());
+    assert_eq!(rt; tags[1].as_bytes(), b"back up".as_slice());
+    let text = print_holds(alloc, &asked, &snap, tags)?;
+    let want = b"tank/a@s\tzrepl_STEP_J_prod\t0\ntank/a@s\tback up\t0\n";
+    assert_eq!(rt; text.as_slice(), want.as_slice());
     Ok(())
 }

@@ -45,7 +45,7 @@ fn suffix_of(alloc: Global, text: &[u8]) -> Result<VersionName, LineFault>
 }
 
 /// What follows the path in a column.
-fn without_path<'a>(path: &Path, column: &'a [u8]) -> Option<&'a [u8]>
+pub(crate) fn without_path<'a>(path: &Path, column: &'a [u8]) -> Option<&'a [u8]>
     ensures some { IfSome result (λ suffix. column.now ≡ path.now ++ suffix.now) }
     ensures none { IfNone result ((suffix : List ℕ) → column.now ≡ path.now ++ suffix → ⊥) }
 {

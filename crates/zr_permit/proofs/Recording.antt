@@ -6,22 +6,23 @@ use Rattle.zr_world.specs.declared.command.Cmd.{Cmd}
 use Rattle.zr_world.specs.declared.command.Entry.{Entry}
 use Rattle.zr_world.specs.declared.command.Entry.TheVariants.{Call}
 use Rattle.zr_world.specs.Answering.{appended, Logs}
+use Rattle.zr_world.specs.Plain.{plain}
 use Rattle.zr_permit.specs.declared.job.JobSet.{JobSet}
 use Rattle.zr_permit.specs.Transcript.{Allowed, Legal, Transcript}
 use Rattle.zr_permit.specs.Turned.{calls, Records, RecordsLegal, RecordsRun, told_of}
 use Rattle.zr_permit.proofs.Legality.{legal-more}
 
-calls-more : (turns : Transcript) (command : Cmd) (given : Answer) → calls (turns ++ (command, given) ∷ []) ≡ calls turns ++ Call command given ∷ []
+calls-more : (turns : Transcript) (command : Cmd) (given : Answer) → calls (turns ++ (command, given) ∷ []) ≡ calls turns ++ Call (plain command) given ∷ []
 calls-more [] command given = refl
-calls-more (turn ∷ turns) command given = ap (λ es. Call turn.0 turn.1 ∷ es) (calls-more turns command given)
+calls-more (turn ∷ turns) command given = ap (λ es. Call (plain turn.0) turn.1 ∷ es) (calls-more turns command given)
 
 -- one call more in a record
-records-more : (base before now : Option (List Entry)) (turns : Transcript) (command : Cmd) (given : Answer) → Records base before turns → now ≡ appended before (Call command given ∷ []) → Records base now (turns ++ (command, given) ∷ [])
+records-more : (base before now : Option (List Entry)) (turns : Transcript) (command : Cmd) (given : Answer) → Records base before turns → now ≡ appended before (Call (plain command) given ∷ []) → Records base now (turns ++ (command, given) ∷ [])
 records-more None before now turns command given records more =
-    more ∙ ap (λ b. appended b (Call command given ∷ [])) records
+    more ∙ ap (λ b. appended b (Call (plain command) given ∷ [])) records
 records-more (Some entries) before now turns command given records more =
-    more ∙ ap (λ b. appended b (Call command given ∷ [])) records
-    ∙ ap Some (append_assoc entries (calls turns) (Call command given ∷ []))
+    more ∙ ap (λ b. appended b (Call (plain command) given ∷ [])) records
+    ∙ ap Some (append_assoc entries (calls turns) (Call (plain command) given ∷ []))
     ∙ ap (λ es. Some (entries ++ es)) (sym (calls-more turns command given))
 
 -- no call more in a record
@@ -33,7 +34,7 @@ records-legal base now jobs unit turns legal records = record {
 }
 
 -- an allowed call, as it was logged
-pub records-run : (base before now : Option (List Entry)) (jobs : JobSet) (unit : Unit) (turns : Transcript) (command : Cmd) (given : Answer) → Legal jobs unit turns → Allowed jobs unit turns command → Logs before now command given → Records base before turns → RecordsRun base now jobs unit (turns ++ (command, given) ∷ []) (told_of given)
+pub records-run : (base before now : Option (List Entry)) (jobs : JobSet) (unit : Unit) (turns : Transcript) (command : Cmd) (given : Answer) → Legal jobs unit turns → Allowed jobs unit turns command → Logs before now (plain command) given → Records base before turns → RecordsRun base now jobs unit (turns ++ (command, given) ∷ []) (told_of given)
 records-run base before now jobs unit turns command (answer.Done reply) legal allowed logs records =
     records-more base before now turns command (answer.Done reply) records logs
 records-run base before now jobs unit turns command answer.Failed legal allowed logs records =

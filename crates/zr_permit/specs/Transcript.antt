@@ -55,9 +55,8 @@ GoesOn unit_work command given = ⊥
 
 -- a destroy is not given twice
 abbrev pub IsNew : Transcript → Cmd → Type 0
-IsNew past cmd.Sets = ⊤
-IsNew past (cmd.Versions path) = ⊤
 IsNew past (cmd.DestroySnap path name) = All (λ turn. turn.0 ≢ cmd.DestroySnap path name) past
+IsNew past command = ⊤
 
 -- the snapshots that a unit's own listing dooms
 abbrev pub doomed_in : JobSet → ℕ → Option (List VersionRow) → List (List ℕ)
@@ -66,13 +65,13 @@ doomed_in jobs number (Some rows) = doomed (rules_of (job_at jobs number)) rows
 
 -- when a unit may give a command, beside what its answers allow: the datasets may be listed by any unit,
 -- the versions of the unit's own dataset by that unit, and a snapshot is destroyed by a prune unit of its
--- dataset alone, where the unit's own listing shows it with no holds and no rule keeps it
+-- dataset alone, where the unit's own listing shows it with no holds and no rule keeps it; nothing else is given
 abbrev pub Permits : JobSet → ℕ → Work → Transcript → Cmd → Type 0
 Permits jobs number unit_work past cmd.Sets = ⊤
 Permits jobs number unit_work past (cmd.Versions path) = own_path unit_work ≡ Some path
 Permits jobs number (work.PruneSource own) past (cmd.DestroySnap path name) =
     (path ≡ own) × Contains (doomed_in jobs number (listed own past)) name
-Permits jobs number unit_work past (cmd.DestroySnap path name) = ⊥
+Permits jobs number unit_work past command = ⊥
 
 -- the permission rule: a unit may give a command after a transcript
 pub record Allowed (jobs : JobSet) (unit : Unit) (past : Transcript) (command : Cmd) : Type 0 where

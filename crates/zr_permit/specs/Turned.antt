@@ -5,6 +5,7 @@ use Rattle.zr_world.specs.declared.command.Cmd.{Cmd}
 use Rattle.zr_world.specs.declared.command.Entry.{Entry}
 use Rattle.zr_world.specs.declared.command.Entry.TheVariants.{Call}
 use Rattle.zr_world.specs.Answering.{appended, Fits}
+use Rattle.zr_world.specs.Plain.{plain}
 use Rattle.zr_permit.specs.declared.told.Told.{Told}
 use Rattle.zr_permit.specs.declared.told.Told.TheVariants as told
 use Rattle.zr_names.specs.declared.outcome.Outcome.{Outcome}
@@ -28,9 +29,9 @@ is_short other = false
 abbrev pub last_answer : Transcript → Option Answer
 last_answer turns = option_map (λ (turn : Turn). turn.1) (slice_get turns (length turns - 1))
 
--- the entries of a runner's record for some turns
+-- the entries of a runner's record for some turns: a command stands as its words tell it
 abbrev pub calls : Transcript → List Entry
-calls turns = map (λ (turn : Turn). Call turn.0 turn.1) turns
+calls turns = map (λ (turn : Turn). Call (plain turn.0) turn.1) turns
 
 -- one command was given and answered: it stands last in the transcript
 pub record HasTurned (before after : Transcript) (command : Cmd) (given : Told) : Type 0 where

@@ -1,4 +1,9 @@
-pub mod Changes
-pub mod Tokens
-pub mod Kept
 pub mod Applied
+pub mod Changing
+pub mod Keeping
+pub mod Moments
+pub mod Order
+pub mod Small
+pub mod Sound
+pub mod Tokens
+pub mod WellFormed

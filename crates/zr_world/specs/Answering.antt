@@ -1,4 +1,4 @@
-use Rattle.std.specs.Prelude.{◌≡◌, ◌≤◌, ℕ, Bool, true, false, List, [], ◌∷◌, ◌++◌, Option, Some, None, ⊤, ◌⊎◌}
+use Rattle.std.specs.Prelude.{◌≡◌, ◌≢◌, ◌≤◌, ℕ, Bool, true, false, List, [], ◌∷◌, ◌++◌, Option, Some, None, ⊤, ◌⊎◌, AllPairs}
 use Rattle.zr_names.specs.Count.{Rose}
 use Rattle.zr_world.specs.declared.effects.Extent.{Extent}
 use Rattle.zr_world.specs.declared.command.Answer.{Answer}
@@ -10,7 +10,9 @@ use Rattle.zr_world.specs.declared.command.Entry.TheVariants.{Call}
 use Rattle.zr_world.specs.declared.command.Reply.TheVariants as reply
 use Rattle.zr_world.specs.declared.pools.Pools.{Pools}
 use Rattle.zr_world.specs.Effect.{Effect, step, go}
+use Rattle.zr_world.specs.Plain.{plain}
 use Rattle.zr_world.specs.Pools.{IsSetList, IsVersionList}
+use Rattle.zr_world.specs.Reasons.{first_that_applies, source_reasons}
 
 abbrev pub is_failed : Answer → Bool
 is_failed Failed = true
@@ -42,9 +44,21 @@ abbrev pub Answers : Cmd → Pools → Pools → Answer → Type 0
 Answers command before after (Done reply) = step before command ≡ go after reply
 Answers command before after answer = (some : Extent) × Effect before command some after
 
+-- a transfer's words name no guids: the command that they give on these pools has the same words, and its guids are
+-- those that stand on the source
+pub record IsGiven (pools : Pools) (asked given : Cmd) : Type 0 where
+  pub same_words : plain given ≡ plain asked
+  pub stands : first_that_applies (source_reasons pools given) ≡ None
+
+-- a command is answered by its own effect or, where it is a transfer, by that of the command that its words give
+abbrev pub AnswersWords : Cmd → Pools → Pools → Answer → Type 0
+AnswersWords command before after answer =
+    Answers command before after answer
+    ⊎ ((given : Cmd) × IsGiven before command given × Answers given before after answer)
+
 -- where a runner tells its pools, it acts by the answer rule
 abbrev pub Acts : Cmd → Option Pools → Option Pools → Answer → Type 0
-Acts command (Some before) (Some after) answer = Answers command before after answer
+Acts command (Some before) (Some after) answer = AnswersWords command before after answer
 Acts command None None answer = ⊤
 Acts command before after answer = ⊥
 
@@ -53,9 +67,16 @@ Acts command before after answer = ⊥
 abbrev pub Fits : Cmd → Answer → Type 0
 Fits cmd.Sets (Done (reply.Sets rows)) = IsSetList rows
 Fits (cmd.Versions path) (Done (reply.Versions rows)) = IsVersionList rows
+Fits (cmd.Holds path name) (Done (reply.Holds tags)) = AllPairs (λ a b. a ≢ b) tags
+Fits (cmd.Hold kind job path name) (Done reply.Nothing) = ⊤
+Fits (cmd.Release kind job path name) (Done reply.Nothing) = ⊤
+Fits (cmd.Bookmark path version mark) (Done reply.Nothing) = ⊤
 Fits (cmd.DestroySnap path name) (Done reply.Nothing) = ⊤
+Fits (cmd.DestroyMark path mark) (Done reply.Nothing) = ⊤
+Fits (cmd.Transfer transfer) (Done reply.Nothing) = ⊤
 Fits cmd.Sets (Garbled line) = ⊤
 Fits (cmd.Versions path) (Garbled line) = ⊤
+Fits (cmd.Holds path name) (Garbled line) = ⊤
 Fits command Failed = ⊤
 Fits command NoMemory = ⊤
 Fits command answer = ⊥

@@ -1,6 +1,9 @@
 pub mod Answering
 pub mod Effect
+pub mod Lookup
 pub mod Mem
 pub mod Memory
+pub mod Plain
 pub mod Pools
+pub mod Reasons
 pub mod Rows

@@ -1,4 +1,4 @@
-ghost use Rattle.std.specs.Prelude.{◌≡◌, ◌++◌, ◌∷◌, []};
+ghost use Rattle.std.specs.Prelude.{◌≡◌, ◌++◌, ◌∷◌, [], is_some, true};
 ghost use Rattle.zr_world.specs.Answering.{Answers, Fits, HasCause};
 ghost use Rattle.zr_world.specs.Pools.{IsWellFormed};
 
@@ -19,6 +19,7 @@ pub fn act(
     ensures answer { Answers cmd.now pools.old pools.new result }
     ensures well_formed { IsWellFormed pools.old → IsWellFormed pools.new }
     ensures shape { IsWellFormed pools.old → Fits cmd.now result }
+    ensures planned { is_some plan ≡ true → result ≡ Answer.Failed }
 {
     match plan {
         Some(extent) => fail(alloc, pools, faults, cmd, extent),

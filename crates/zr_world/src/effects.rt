@@ -1,15 +1,33 @@
-ghost use Rattle.std.specs.Prelude.{◌≡◌, IfOk, find, map, position};
-ghost use Rattle.std.specs.Option.{option_copied};
-ghost use Rattle.zr_world.specs.Effect.{Applies, at_extent, changed_at, is_at, step, without_snap};
+ghost use Rattle.std.specs.Prelude.{◌≡◌, ◌++◌, ◌∷◌, [], None, false, IfOk, OnOk, OnErr, map, option_map};
+ghost use Rattle.std.specs.Option.{option_map_or};
+ghost use Rattle.zr_names.specs.Marks.{tag_text};
+ghost use Rattle.zr_world.specs.Effect.{
+  after_since,
+  Applies,
+  bookmarked,
+  part_of,
+  received,
+  reply_to,
+  step_at,
+  with_target,
+  with_version,
+  without_tag,
+};
+ghost use Rattle.zr_world.specs.Lookup.{dataset_at, tags_at, version_at};
+ghost use Rattle.zr_world.specs.Reasons.{is_spent, refusal};
 ghost use Rattle.zr_world.specs.Rows.{row_of_set, row_of_version};
 ghost use Rattle.zr_world.specs.declared.command.Cmd.TheVariants as cmd;
+ghost use Rattle.zr_world.specs.declared.version.VersionName.TheVariants.{Snap};
 
-use crate::command::{Cmd, Reply};
+use crate::changes::{add_version, change_tags, make_set, remove_version, set_partial};
+use crate::command::{Cmd, Reply, Transfer};
 use crate::pools::{Dataset, Pools, Version};
-use crate::version::{SetRow, VersionRow};
-use std::alloc::{AllocError, Global};
-use std::mem;
-use zr_names::{NoMemory, Path, Rows, SnapName};
+use crate::reasons::{is_of, refusal, tags_at};
+use crate::version::{SetRow, VersionName, VersionRow};
+use std::alloc::Global;
+use zr_names::{
+    JobName, MarkName, NoMemory, Path, Rows, Same, SnapName, Tag, TagKind, same_items, tag_of,
+};
 
 /// How much of a command's effect comes.
 #[derive(Clone, Copy, Debug, PartialEq, Eq)]
@@ -23,10 +41,22 @@ pub enum Extent {
 /// Why ZFS refuses a command.
 #[derive(Clone, Copy, Debug, PartialEq, Eq)]
 pub enum Refusal {
-    /// The dataset or the snapshot is not there.
+    /// A dataset, a snapshot or a bookmark is not there.
     NoSuch,
+    /// What is to be made is there already.
+    Exists,
     /// The snapshot has a hold.
     Held,
+    /// The snapshot has this hold already.
+    TagThere,
+    /// The snapshot has not this hold.
+    TagMissing,
+    /// The target's newest snapshot is not the one that the increment starts from.
+    NotNewest,
+    /// The target, or its parent in its first receive, has a partial receive.
+    HasPartial,
+    /// No transaction group is left.
+    Spent,
 }
 
 /// Why `apply` gives no reply.
@@ -69,94 +99,240 @@ fn version_rows(alloc: Global, versions: &[Version]) -> Result<Rows<VersionRow>,
     Ok(Rows::from_vec(rows))
 }
 
-/// The dataset at this path.
-fn dataset_at<'a>(sets: &'a [Dataset], path: &Path) -> Option<&'a Dataset>
-    ensures { option_copied result ≡ find (is_at path.now) sets.now }
+/// The versions of the dataset at this path.
+fn versions_at<'a>(pools: &'a Pools, path: &Path) -> &'a [Version]
+    ensures { result.now ≡ option_map_or (λ set. set.versions) (dataset_at pools.entry.now path.now) [] }
 {
-    sets.iter().find(|set| set.path == *path)
-}
-
-/// The place of the dataset at this path.
-fn place_of(sets: &[Dataset], path: &Path) -> Option<usize>
-    ensures { result ≡ position (is_at path.now) sets.now }
-{
-    sets.iter().position(|set| set.path == *path)
-}
-
-/// Takes a snapshot of the dataset at this path away.
-fn remove_in(alloc: Global, sets: &mut [Dataset], path: &Path, name: &SnapName)
-    ensures { sets.new ≡ changed_at path.now (without_snap name.now) sets.old }
-{
-    let Some(place) = place_of(sets, path) else {
-        return;
-    };
-    let set = &mut sets[place];
-    set.remove_snap(alloc, name);
-}
-
-/// Takes a snapshot of the dataset at this path away.
-fn remove_snap(alloc: Global, pools: &mut Pools, path: &Path, name: &SnapName)
-    ensures { pools.new ≡
-        record pools.old { sets = changed_at path.now (without_snap name.now) pools.old.sets } }
-{
-    let mut sets = mem::replace(&mut pools.sets, Rows::new(alloc)).into_vec();
-    remove_in(alloc, sets.as_mut_slice(), path, name);
-    pools.sets = Rows::from_vec(sets);
-}
-
-fn list_sets(alloc: Global, pools: &Pools, extent: Extent) -> Result<Reply, ApplyFault>
-    ensures { Applies pools.entry.now (at_extent pools.entry.now extent (step pools.entry.now cmd.Sets))
-        pools.entry.now result }
-{
-    if extent != Extent::Whole {
-        return Ok(Reply::Nothing);
+    match pools.dataset(path) {
+        Some(set) => set.versions.as_slice(),
+        None => &[],
     }
-    Ok(Reply::Sets(set_rows(alloc, pools.sets.as_slice())?))
 }
 
-fn list_versions(
+/// The reply to a command that came whole.
+fn reply(alloc: Global, pools: &Pools, cmd: &Cmd) -> Result<Reply, NoMemory>
+    ensures { IfOk result (λ reply. reply ≡ reply_to pools.entry.now cmd.now) }
+{
+    match cmd {
+        Cmd::Sets => Ok(Reply::Sets(set_rows(alloc, pools.sets.as_slice())?)),
+        Cmd::Versions(path) => {
+            Ok(Reply::Versions(version_rows(alloc, versions_at(pools, path))?))
+        }
+        Cmd::Holds(path, name) => Ok(Reply::Holds(same_items(alloc, tags_at(pools, path, name))?)),
+        Cmd::Hold(_, _, _, _)
+        | Cmd::Release(_, _, _, _)
+        | Cmd::Bookmark(_, _, _)
+        | Cmd::DestroySnap(_, _)
+        | Cmd::DestroyMark(_, _)
+        | Cmd::Transfer(_) => Ok(Reply::Nothing),
+    }
+}
+
+/// The tags of a snapshot with one more.
+fn tags_with(
     alloc: Global,
     pools: &Pools,
+    kind: TagKind,
+    job: &JobName,
     path: &Path,
-    extent: Extent,
-) -> Result<Reply, ApplyFault>
-    ensures { Applies pools.entry.now
-        (at_extent pools.entry.now extent (step pools.entry.now (cmd.Versions path.now)))
-        pools.entry.now result }
+    name: &SnapName,
+) -> Result<Rows<Tag>, NoMemory>
+    ensures { IfOk result (λ tags. tags ≡
+        tags_at pools.entry.now path.now (Snap name.now) ++ tag_text kind job.now ∷ []) }
 {
-    let Some(set) = dataset_at(pools.sets.as_slice(), path) else {
-        return Err(ApplyFault::Refused(Refusal::NoSuch));
-    };
-    if extent != Extent::Whole {
-        return Ok(Reply::Nothing);
-    }
-    Ok(Reply::Versions(version_rows(alloc, set.versions.as_slice())?))
+    let mut tags = same_items(alloc, tags_at(pools, path, name))?;
+    tags.push(tag_of(alloc, kind, job)?)?;
+    Ok(tags)
 }
 
-fn destroy_snap(
+/// Takes the tag of a job out of a list of tags.
+fn retain_others(tags: &mut Vec<Tag>, kind: TagKind, job: &JobName)
+    ensures { tags.new.items ≡ without_tag (tag_text kind job.now) tags.old.items }
+{
+    tags.retain(|tag| !is_of(tag, kind, job));
+}
+
+/// The tags of a snapshot without that of a job.
+fn tags_without(
+    alloc: Global,
+    pools: &Pools,
+    kind: TagKind,
+    job: &JobName,
+    path: &Path,
+    name: &SnapName,
+) -> Result<Rows<Tag>, NoMemory>
+    ensures { IfOk result (λ tags. tags ≡
+        without_tag (tag_text kind job.now) (tags_at pools.entry.now path.now (Snap name.now))) }
+{
+    let mut tags = same_items(alloc, tags_at(pools, path, name))?.into_vec();
+    retain_others(&mut tags, kind, job);
+    Ok(Rows::from_vec(tags))
+}
+
+/// Puts the hold of a job on a snapshot.
+fn hold(
+    alloc: Global,
+    pools: &mut Pools,
+    kind: TagKind,
+    job: &JobName,
+    path: &Path,
+    name: &SnapName,
+) -> Result<(), NoMemory>
+    ensures ok { OnOk result (pools.new ≡
+        after_since pools.old pools.old (cmd.Hold kind job.now path.now name.now)) }
+    ensures err { OnErr result (pools.new ≡ pools.old) }
+{
+    let tags = tags_with(alloc, pools, kind, job, path, name)?;
+    change_tags(alloc, pools, path, name, tags);
+    Ok(())
+}
+
+/// Takes the hold of a job off a snapshot.
+fn release(
+    alloc: Global,
+    pools: &mut Pools,
+    kind: TagKind,
+    job: &JobName,
+    path: &Path,
+    name: &SnapName,
+) -> Result<(), NoMemory>
+    ensures ok { OnOk result (pools.new ≡
+        after_since pools.old pools.old (cmd.Release kind job.now path.now name.now)) }
+    ensures err { OnErr result (pools.new ≡ pools.old) }
+{
+    let tags = tags_without(alloc, pools, kind, job, path, name)?;
+    change_tags(alloc, pools, path, name, tags);
+    Ok(())
+}
+
+/// Makes a bookmark of a version, if that is there.
+fn bookmark(
     alloc: Global,
     pools: &mut Pools,
     path: &Path,
-    name: &SnapName,
-    extent: Extent,
-) -> Result<Reply, ApplyFault>
-    ensures { Applies pools.old
-        (at_extent pools.old extent (step pools.old (cmd.DestroySnap path.now name.now)))
-        pools.new result }
+    version: &VersionName,
+    mark: &MarkName,
+) -> Result<(), NoMemory>
+    ensures ok { OnOk result (pools.new ≡
+        bookmarked pools.old path.now mark.now (version_at pools.old path.now version.now)) }
+    ensures err { OnErr result (pools.new ≡ pools.old) }
 {
-    let Some(set) = dataset_at(pools.sets.as_slice(), path) else {
-        return Err(ApplyFault::Refused(Refusal::NoSuch));
+    let Some(version) = pools.version(path, version) else {
+        return Ok(());
     };
-    let Some(version) = set.snap(name) else {
-        return Err(ApplyFault::Refused(Refusal::NoSuch));
+    let bookmark = version.bookmark(alloc, mark)?;
+    add_version(alloc, pools, path, bookmark)
+}
+
+/// Puts a snapshot on the target of a transfer, which it makes where it is absent.
+fn receive(
+    alloc: Global,
+    pools: &mut Pools,
+    target: &Path,
+    version: Version,
+) -> Result<(), NoMemory>
+    ensures ok { OnOk result (pools.new ≡ with_target pools.old target.now (with_version version)) }
+    ensures err { OnErr result (pools.new ≡ pools.old) }
+{
+    if pools.dataset(target).is_some() {
+        return add_version(alloc, pools, target, version);
+    }
+    let mut set = Dataset::new(alloc, target.same()?);
+    set.versions.push(version)?;
+    make_set(alloc, pools, set)
+}
+
+/// The snapshot that a transfer makes, if its source is there.
+fn arriving(alloc: Global, pools: &Pools, transfer: &Transfer) -> Result<Option<Version>, NoMemory>
+    ensures { IfOk result (λ version. version ≡ option_map (received pools.entry.now.next_txg)
+        (version_at pools.entry.now transfer.now.source (Snap transfer.now.to))) }
+{
+    match pools.snap(&transfer.source, &transfer.to) {
+        Some(version) => Ok(Some(version.received(alloc, pools.next_txg)?)),
+        None => Ok(None),
+    }
+}
+
+/// Does a whole transfer, if its source is there.
+fn transfer(alloc: Global, pools: &mut Pools, transfer: &Transfer) -> Result<(), NoMemory>
+    requires unspent { is_spent pools.old ≡ false }
+    ensures ok { OnOk result (pools.new ≡ after_since pools.old pools.old (cmd.Transfer transfer.now)) }
+    ensures err { OnErr result (pools.new ≡ pools.old) }
+{
+    let Some(version) = arriving(alloc, pools, transfer)? else {
+        return Ok(());
     };
-    if !version.tags.is_empty() {
-        return Err(ApplyFault::Refused(Refusal::Held));
+    receive(alloc, pools, &transfer.target, version)?;
+    pools.next_txg += 1;
+    Ok(())
+}
+
+/// Leaves the partial receive of a transfer on its target, which it makes where it is absent.
+fn leave_partial(alloc: Global, pools: &mut Pools, transfer: &Transfer) -> Result<(), NoMemory>
+    ensures ok { OnOk result (pools.new ≡ part_of pools.old (cmd.Transfer transfer.now)) }
+    ensures err { OnErr result (pools.new ≡ pools.old) }
+{
+    let partial = transfer.partial()?;
+    if pools.dataset(&transfer.target).is_some() {
+        set_partial(alloc, pools, &transfer.target, partial);
+        return Ok(());
     }
-    if extent == Extent::Whole {
-        remove_snap(alloc, pools, path, name);
+    let mut set = Dataset::new(alloc, transfer.target.same()?);
+    set.partial = Some(partial);
+    make_set(alloc, pools, set)
+}
+
+/// Does a whole command that is not refused, unless it is a transfer.
+fn change(alloc: Global, pools: &mut Pools, cmd: &Cmd) -> Result<(), NoMemory>
+    requires allowed { refusal pools.old cmd.now ≡ None }
+    ensures ok { OnOk result (pools.new ≡ after_since pools.old pools.old cmd.now) }
+    ensures err { OnErr result (pools.new ≡ pools.old) }
+{
+    match cmd {
+        Cmd::Sets | Cmd::Versions(_) | Cmd::Holds(_, _) => Ok(()),
+        Cmd::Hold(kind, job, path, name) => hold(alloc, pools, *kind, job, path, name),
+        Cmd::Release(kind, job, path, name) => release(alloc, pools, *kind, job, path, name),
+        Cmd::Bookmark(path, version, mark) => bookmark(alloc, pools, path, version, mark),
+        Cmd::DestroySnap(path, name) => {
+            remove_version(alloc, pools, path, &VersionName::Snap(name.same()?));
+            Ok(())
+        }
+        Cmd::DestroyMark(path, mark) => {
+            remove_version(alloc, pools, path, &VersionName::Mark(mark.same()?));
+            Ok(())
+        }
+        Cmd::Transfer(asked) => transfer(alloc, pools, asked),
     }
-    Ok(Reply::Nothing)
+}
+
+/// Does a whole command that is not refused.
+fn whole(alloc: Global, pools: &mut Pools, cmd: &Cmd) -> Result<Reply, NoMemory>
+    requires allowed { refusal pools.old cmd.now ≡ None }
+    ensures ok { OnOk result (pools.new ≡ after_since pools.old pools.old cmd.now) }
+    ensures reply { IfOk result (λ reply. reply ≡ reply_to pools.old cmd.now) }
+    ensures err { OnErr result (pools.new ≡ pools.old) }
+{
+    let reply = reply(alloc, pools, cmd)?;
+    change(alloc, pools, cmd)?;
+    Ok(reply)
+}
+
+/// Does a part of a command that is not refused.
+fn part(alloc: Global, pools: &mut Pools, cmd: &Cmd) -> Result<(), NoMemory>
+    ensures ok { OnOk result (pools.new ≡ part_of pools.old cmd.now) }
+    ensures err { OnErr result (pools.new ≡ pools.old) }
+{
+    match cmd {
+        Cmd::Transfer(asked) => leave_partial(alloc, pools, asked),
+        Cmd::Sets
+        | Cmd::Versions(_)
+        | Cmd::Holds(_, _)
+        | Cmd::Hold(_, _, _, _)
+        | Cmd::Release(_, _, _, _)
+        | Cmd::Bookmark(_, _, _)
+        | Cmd::DestroySnap(_, _)
+        | Cmd::DestroyMark(_, _) => Ok(()),
+    }
 }
 
 /// Does to the pools what ZFS does at a command, at the given extent.
@@ -166,11 +342,17 @@ pub fn apply(
     cmd: &Cmd,
     extent: Extent,
 ) -> Result<Reply, ApplyFault>
-    ensures { Applies pools.old (at_extent pools.old extent (step pools.old cmd.now)) pools.new result }
+    ensures { Applies pools.old (step_at pools.old cmd.now extent) pools.new result }
 {
-    match cmd {
-        Cmd::Sets => list_sets(alloc, pools, extent),
-        Cmd::Versions(path) => list_versions(alloc, pools, path, extent),
-        Cmd::DestroySnap(path, name) => destroy_snap(alloc, pools, path, name, extent),
+    if let Some(refusal) = refusal(pools, cmd) {
+        return Err(ApplyFault::Refused(refusal));
+    }
+    match extent {
+        Extent::None => Ok(Reply::Nothing),
+        Extent::Part => {
+            part(alloc, pools, cmd)?;
+            Ok(Reply::Nothing)
+        }
+        Extent::Whole => Ok(whole(alloc, pools, cmd)?),
     }
 }

@@ -2,7 +2,7 @@
 #![tactic(auto)]
 
 pub use acting::act;
-pub use command::{Answer, Cmd, Entry, Reply};
+pub use command::{Answer, Base, Cmd, Entry, Reply, Transfer};
 pub use effects::{ApplyFault, Extent, Refusal, apply};
 pub use mem::MemZfs;
 pub use planned::Planned;
@@ -11,11 +11,14 @@ pub use version::{SetRow, VersionName, VersionRow};
 pub use zfs::Zfs;
 
 pub mod acting;
+mod changes;
 pub mod command;
 pub mod effects;
+pub mod laws;
 pub mod mem;
 pub mod planned;
 pub mod pools;
+mod reasons;
 #[cfg(test)]
 mod tests;
 pub mod version;

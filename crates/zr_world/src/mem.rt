@@ -1,5 +1,6 @@
 ghost use Rattle.std.specs.Prelude.{◌≡◌, ◌++◌, ◌∷◌, [], IfOk, OnOk, OnErr};
 ghost use Rattle.zr_world.specs.Mem.{Recorded};
+ghost use Rattle.zr_world.specs.Plain.{plain};
 
 use crate::acting::act;
 use crate::command::{Answer, Cmd, Entry};
@@ -84,9 +85,9 @@ fn begin_entry(unit: &Unit, run: u64) -> Result<Entry, AllocError>
 }
 
 fn call_entry(cmd: &Cmd, answer: &Answer) -> Result<Entry, AllocError>
-    ensures { IfOk result (λ entry. entry ≡ Entry.Call cmd.now answer.now) }
+    ensures { IfOk result (λ entry. entry ≡ Entry.Call (plain cmd.now) answer.now) }
 {
-    Ok(Entry::Call(cmd.same()?, answer.same()?))
+    Ok(Entry::Call(cmd.plain()?, answer.same()?))
 }
 
 fn push(told: &mut Vec<Entry>, entry: Entry) -> Result<(), NoMemory>
@@ -99,7 +100,7 @@ fn push(told: &mut Vec<Entry>, entry: Entry) -> Result<(), NoMemory>
 
 /// Puts a call into the record, or answers want of memory in place of its answer.
 fn recorded(told: &mut Vec<Entry>, cmd: &Cmd, answer: Answer) -> Answer
-    ensures { Recorded told.old.items told.new.items cmd.now answer result }
+    ensures { Recorded told.old.items told.new.items (plain cmd.now) answer result }
 {
     let Ok(entry) = call_entry(cmd, &answer) else {
         return Answer::NoMemory;

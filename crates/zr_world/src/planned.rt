@@ -8,8 +8,13 @@ pub struct Planned {
 }
 
 impl Planned {
+    ghost use Rattle.std.specs.Prelude.{◌≡◌, ◌==◌, find, option_map};
+
     /// The extent at which this call is to fail, if it is.
-    pub fn find(failing: &[Planned], call: u64) -> Option<Extent> {
+    pub fn find(failing: &[Planned], call: u64) -> Option<Extent>
+        ensures { result ≡ option_map (λ planned. planned.extent)
+            (find (λ planned. planned.call == call) failing.now) }
+    {
         let planned = failing.iter().find(|planned| planned.call == call)?;
         Some(planned.extent)
     }

@@ -1,12 +1,12 @@
-ghost use Rattle.std.specs.Prelude.{◌≡◌, ◌++◌, OnOk, filter, not};
+ghost use Rattle.std.specs.Prelude.{◌≡◌, ◌==◌, ◌++◌, OnOk};
+ghost use Rattle.std.specs.List.{list_any};
+ghost use Rattle.zr_world.specs.Lookup.{is_component, is_parent};
 ghost use Rattle.zr_world.specs.Rows.{from_text};
-ghost use Rattle.zr_world.specs.Effect.{is_snap};
 
 use crate::version::{SetRow, VersionName, VersionRow};
 use std::alloc::{AllocError, Global};
-use std::mem;
 use zr_names::names::PATH_LIMIT;
-use zr_names::{Bytes, Guid, Path, Rows, Same, SnapName, Tag, TokenText};
+use zr_names::{Bytes, Guid, MarkName, Path, Rows, Same, SnapName, Tag, TokenText};
 
 /// A snapshot or a bookmark as it stands in a pool.
 #[derive(Debug, Drop)]
@@ -85,8 +85,10 @@ fn push_from(text: &mut Vec<u8>, from: &Option<Guid>) -> Result<(), AllocError>
 
 impl Version {
     ghost use Rattle.std.specs.Prelude.{◌≡◌, IfOk};
+    ghost use Rattle.zr_world.specs.Effect.{bookmark_of, received, version_before};
+    ghost use Rattle.zr_world.specs.Lookup.{has_guid, has_name, is_snapshot};
     ghost use Rattle.zr_world.specs.Rows.{row_of_version};
-    ghost use Rattle.zr_world.specs.Effect.{is_snap};
+    ghost use Rattle.zr_world.specs.declared.version.VersionName.TheVariants.{Mark, Snap};
 
     /// How it shows in a listing.
     pub fn row(&self) -> Result<VersionRow, AllocError>
@@ -103,27 +105,103 @@ impl Version {
 
     /// Whether it is the snapshot of this name.
     pub fn is_snap(&self, name: &SnapName) -> bool
-        ensures { result ≡ is_snap name.now self.now }
+        ensures { result ≡ has_name (Snap name.now) self.now }
     {
         match &self.name {
             VersionName::Snap(other) => other == name,
             VersionName::Mark(_) => false,
         }
     }
-}
 
-/// Takes the snapshot of this name out of a list of versions.
-fn retain_others(versions: &mut Vec<Version>, name: &SnapName)
-    ensures { versions.new.items ≡ filter (λ v. not (is_snap name.now v)) versions.old.items }
-{
-    versions.retain(|version| !version.is_snap(name));
+    /// Whether it is the bookmark of this name.
+    pub fn is_mark(&self, name: &MarkName) -> bool
+        ensures { result ≡ has_name (Mark name.now) self.now }
+    {
+        match &self.name {
+            VersionName::Snap(_) => false,
+            VersionName::Mark(other) => other == name,
+        }
+    }
+
+    /// Whether it is a snapshot.
+    pub fn is_snapshot(&self) -> bool
+        ensures { result ≡ is_snapshot self.now }
+    {
+        match &self.name {
+            VersionName::Snap(_) => true,
+            VersionName::Mark(_) => false,
+        }
+    }
+
+    /// Whether it has this name.
+    pub fn has_name(&self, name: &VersionName) -> bool
+        ensures { result ≡ has_name name.now self.now }
+    {
+        match name {
+            VersionName::Snap(name) => self.is_snap(name),
+            VersionName::Mark(name) => self.is_mark(name),
+        }
+    }
+
+    pub fn has_guid(&self, guid: Guid) -> bool
+        ensures { result ≡ has_guid guid self.now }
+    {
+        self.guid.0 == guid.0
+    }
+
+    /// Whether it stands before another in a listing.
+    pub fn is_before(&self, other: &Version) -> bool
+        ensures { result ≡ version_before self.now other.now }
+    {
+        self.txg < other.txg || self.txg == other.txg && self.name < other.name
+    }
+
+    /// A bookmark of it.
+    pub fn bookmark(&self, alloc: Global, mark: &MarkName) -> Result<Version, AllocError>
+        ensures { IfOk result (λ version. version ≡ bookmark_of mark.now self.now) }
+    {
+        Ok(Version {
+            name: VersionName::Mark(mark.same()?),
+            guid: self.guid,
+            txg: self.txg,
+            creation: self.creation,
+            tags: Rows::new(alloc),
+        })
+    }
+
+    /// The snapshot that a receive of it makes in this transaction group.
+    pub fn received(&self, alloc: Global, txg: u64) -> Result<Version, AllocError>
+        ensures { IfOk result (λ version. version ≡ received txg self.now) }
+    {
+        Ok(Version {
+            name: self.name.same()?,
+            guid: self.guid,
+            txg,
+            creation: self.creation,
+            tags: Rows::new(alloc),
+        })
+    }
 }
 
 impl Dataset {
     ghost use Rattle.std.specs.Prelude.{◌≡◌, IfOk, find};
     ghost use Rattle.std.specs.Option.{option_copied};
+    ghost use Rattle.zr_world.specs.Effect.{new_set};
+    ghost use Rattle.zr_world.specs.Lookup.{has_name, in_first_receive, newest};
     ghost use Rattle.zr_world.specs.Rows.{row_of_set};
-    ghost use Rattle.zr_world.specs.Effect.{is_snap, without_snap};
+    ghost use Rattle.zr_world.specs.declared.version.VersionName.TheVariants.{Mark, Snap};
+
+    /// A dataset without versions, as a transfer makes it.
+    pub fn new(alloc: Global, path: Path) -> Dataset
+        ensures { result ≡ new_set path }
+    {
+        Dataset {
+            path,
+            placeholder: false,
+            partial: None,
+            versions: Rows::new(alloc),
+        }
+    }
 
     /// How it shows in a listing.
     pub fn row(&self, alloc: Global) -> Result<SetRow, AllocError>
@@ -142,7 +220,7 @@ impl Dataset {
 
     /// Its snapshot of this name.
     pub fn snap<'a>(&'a self, name: &SnapName) -> Option<&'a Version>
-        ensures { option_copied result ≡ find (is_snap name.now) self.now.versions }
+        ensures { option_copied result ≡ find (has_name (Snap name.now)) self.now.versions }
     {
         self.versions
             .as_slice()
@@ -150,12 +228,103 @@ impl Dataset {
             .find(|version| version.is_snap(name))
     }
 
-    /// Takes the snapshot of this name away.
-    pub fn remove_snap(&mut self, alloc: Global, name: &SnapName)
-        ensures { self.new ≡ without_snap name.now self.old }
+    /// Its bookmark of this name.
+    pub fn mark<'a>(&'a self, name: &MarkName) -> Option<&'a Version>
+        ensures { option_copied result ≡ find (has_name (Mark name.now)) self.now.versions }
     {
-        let mut versions = mem::replace(&mut self.versions, Rows::new(alloc)).into_vec();
-        retain_others(&mut versions, name);
-        self.versions = Rows::from_vec(versions);
+        self.versions
+            .as_slice()
+            .iter()
+            .find(|version| version.is_mark(name))
+    }
+
+    /// Its newest snapshot.
+    pub fn newest<'a>(&'a self) -> Option<&'a Version>
+        ensures { option_copied result ≡ newest self.now }
+    {
+        self.versions
+            .as_slice()
+            .iter()
+            .rev()
+            .find(|version| version.is_snapshot())
+    }
+
+    /// Whether it is in its first receive, in which nothing may be made below it.
+    pub fn in_first_receive(&self) -> bool
+        ensures { result ≡ in_first_receive self.now }
+    {
+        self.partial.is_some() && self.newest().is_none() && !self.placeholder
+    }
+}
+
+fn has_slash(name: &[u8]) -> bool
+    ensures { result ≡ list_any (λ byte. byte == 47) name.now }
+{
+    name.iter().any(|byte| *byte == b'/')
+}
+
+/// Whether a slash and one component stand behind a parent's path.
+fn is_component(rest: &[u8]) -> bool
+    ensures { result ≡ is_component rest.now }
+{
+    match rest.split_first() {
+        Some((first, name)) => *first == b'/' && !has_slash(name),
+        None => false,
+    }
+}
+
+/// Whether a dataset is the parent of a path.
+fn is_parent(set: &Dataset, path: &[u8]) -> bool
+    ensures { result ≡ is_parent path.now set.now }
+{
+    let parent = set.path.as_bytes();
+    parent.len() < path.len()
+        && &path[..parent.len()] == parent
+        && is_component(&path[parent.len()..])
+}
+
+impl Pools {
+    ghost use Rattle.std.specs.Prelude.{◌≡◌};
+    ghost use Rattle.std.specs.Option.{option_copied};
+    ghost use Rattle.zr_world.specs.Lookup.{dataset_at, parent_at, version_at};
+    ghost use Rattle.zr_world.specs.declared.version.VersionName.TheVariants.{Mark, Snap};
+
+    /// The dataset at this path.
+    pub fn dataset<'a>(&'a self, path: &Path) -> Option<&'a Dataset>
+        ensures { option_copied result ≡ dataset_at self.entry.now path.now }
+    {
+        self.sets.as_slice().iter().find(|set| set.path == *path)
+    }
+
+    /// The parent of a path. A path of one component has none.
+    pub fn parent<'a>(&'a self, path: &Path) -> Option<&'a Dataset>
+        ensures { option_copied result ≡ parent_at self.entry.now path.now }
+    {
+        let path = path.as_bytes();
+        self.sets.as_slice().iter().find(|set| is_parent(set, path))
+    }
+
+    /// A snapshot of the dataset at this path.
+    pub fn snap<'a>(&'a self, path: &Path, name: &SnapName) -> Option<&'a Version>
+        ensures { option_copied result ≡ version_at self.entry.now path.now (Snap name.now) }
+    {
+        self.dataset(path)?.snap(name)
+    }
+
+    /// A bookmark of the dataset at this path.
+    pub fn mark<'a>(&'a self, path: &Path, name: &MarkName) -> Option<&'a Version>
+        ensures { option_copied result ≡ version_at self.entry.now path.now (Mark name.now) }
+    {
+        self.dataset(path)?.mark(name)
+    }
+
+    /// A version of the dataset at this path.
+    pub fn version<'a>(&'a self, path: &Path, name: &VersionName) -> Option<&'a Version>
+        ensures { option_copied result ≡ version_at self.entry.now path.now name.now }
+    {
+        match name {
+            VersionName::Snap(name) => self.snap(path, name),
+            VersionName::Mark(name) => self.mark(path, name),
+        }
     }
 }

@@ -1,5 +1,6 @@
 ghost use Rattle.std.specs.Prelude.{◌≡◌, ℕ, [], ◌∷◌, List, Option, OnOk, OnErr};
 ghost use Rattle.zr_world.specs.Answering.{Acts, appended, Fits, HasCause, Logs};
+ghost use Rattle.zr_world.specs.Plain.{plain};
 ghost use Rattle.zr_world.specs.declared.command.Entry.{Entry as EntryValue};
 ghost use Rattle.zr_world.specs.declared.command.Entry.TheVariants.{Begin};
 ghost use Rattle.zr_world.specs.declared.pools.Pools.{Pools as PoolsValue};
@@ -27,7 +28,7 @@ pub trait Zfs {
 
     fn run(&mut self, cmd: &Cmd) -> Answer
         ensures cause { HasCause (faults self.old) (faults self.new) result }
-        ensures told { Logs (told self.old) (told self.new) cmd.now result }
+        ensures told { Logs (told self.old) (told self.new) (plain cmd.now) result }
         ensures pools { Acts cmd.now (pools self.old) (pools self.new) result }
         ensures shape { Fits cmd.now result };
 }

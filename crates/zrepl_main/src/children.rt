@@ -1,16 +1,16 @@
-ghost use Rattle.std.specs.Prelude.{◌≡◌, ◌≢◌, ◌≤◌, None, vec_len};
-ghost use Rattle.zr_exec.specs.Exits.{HasExitCause};
-ghost use Rattle.zr_exec.specs.declared.spawn.TheConstants.{LISTING_LIMIT};
+ghost use Rattle.std.specs.Prelude.{◌≡◌, ◌≤◌, None, true, false};
+ghost use Rattle.zr_exec.specs.Exits.{is_child_fault, is_pipe_fault};
+ghost use Rattle.zr_names.specs.Count.{Rose};
 
-use crate::reading::{Reading, read_up_to};
+use crate::piping::pipe_to_end;
+use crate::running::run_to_end;
 use std::alloc::Global;
-use std::io;
-use std::io::ErrorKind;
-use std::process::{Child, Command, ExitStatus, OpenProcess, Processes, Stdio};
-use zr_exec::{LISTING_LIMIT, RunExit, Spawn};
+use std::process::Processes;
+use zr_exec::{PipeExit, RunExit, Spawn};
 use zr_names::{NoMemory, Unit};
 
-/// Runs programs of the system. A child has no input, and its standard error is this process's.
+/// Runs programs of the system. A child has no input but the other end of its pipe, and its standard
+/// error is this process's.
 #[derive(Drop)]
 pub struct RealSpawn<P> {
     rt: P,
@@ -28,101 +28,35 @@ impl<P: Processes> RealSpawn<P> {
     }
 }
 
-/// The end of a child that was not started, or whose output or status could not be had.
-fn unended(fault: &io::Error) -> RunExit
-    ensures { result ≢ RunExit.TooLong }
-{
-    if fault.kind() == ErrorKind::OutOfMemory {
-        RunExit::NoMemory
-    } else {
-        RunExit::Failed
-    }
-}
-
-/// Starts the program that the first word names.
-fn start<P: Processes>(rt: &P, alloc: Global, argv: &[String]) -> io::Result<Child<P::Started>> {
-    let Some(program) = argv.first() else {
-        return Err(io::Error::from(ErrorKind::InvalidInput));
-    };
-    let mut command = Command::new(alloc, program.as_str())?;
-    for word in &argv[1..] {
-        command.arg(word.as_str())?;
-    }
-    command
-        .stdin(Stdio::null())
-        .stdout(Stdio::piped())
-        .stderr(Stdio::inherit())
-        .spawn(rt)
-}
-
-/// Reads what a child writes, up to the limit.
-fn listen<S: OpenProcess>(alloc: Global, child: &mut Child<S>, out: &mut Vec<u8>) -> Reading
-    ensures within { vec_len out.new ≤ LISTING_LIMIT }
-    ensures full { result ≡ Reading.TooLong → vec_len out.new ≡ LISTING_LIMIT }
-{
-    match child.stdout.take() {
-        Some(mut stdout) => read_up_to(alloc, &mut stdout, out, LISTING_LIMIT),
-        None => {
-            out.clear();
-            Reading::Failed
-        }
-    }
-}
-
-/// How a child ended that was read to its end.
-fn exit_of(ended: io::Result<ExitStatus>) -> RunExit
-    ensures { result ≢ RunExit.TooLong }
-{
-    match ended {
-        Ok(status) => match status.code() {
-            Some(0) => RunExit::Done,
-            Some(_) => RunExit::Nonzero,
-            None => RunExit::Failed,
-        },
-        Err(fault) => unended(&fault),
-    }
-}
-
-/// Ends a child whose output is of no more use, and waits for it.
-fn put_down<S: OpenProcess>(child: &mut Child<S>) {
-    let _ = child.kill();
-    let _ = child.wait();
-}
-
-/// Runs a program to its end.
-fn run_to_end<P: Processes>(rt: &P, alloc: Global, argv: &[String], out: &mut Vec<u8>) -> RunExit
-    ensures within { vec_len out.new ≤ LISTING_LIMIT }
-    ensures full { result ≡ RunExit.TooLong → vec_len out.new ≡ LISTING_LIMIT }
-{
-    let mut child = match start(rt, alloc, argv) {
-        Ok(child) => child,
-        Err(fault) => {
-            out.clear();
-            return unended(&fault);
-        }
-    };
-    let exit = match listen(alloc, &mut child, out) {
-        Reading::Whole => return exit_of(child.wait()),
-        Reading::TooLong => RunExit::TooLong,
-        Reading::Failed => RunExit::Failed,
-        Reading::NoMemory => RunExit::NoMemory,
-    };
-    put_down(&mut child);
-    exit
-}
-
-/// Counts a child that failed.
-fn counted(exit: RunExit, faults: &mut u64) -> RunExit
-    ensures same { result ≡ exit }
-    ensures cause { HasExitCause faults.old faults.new exit }
+/// Whether a child failed.
+fn is_child_fault(exit: RunExit) -> bool
+    ensures { result ≡ is_child_fault exit }
 {
     match exit {
-        RunExit::Nonzero | RunExit::Failed | RunExit::TooLong => {
-            *faults = faults.saturating_add(1);
-        }
-        RunExit::Done | RunExit::NoMemory => {}
+        RunExit::Nonzero | RunExit::Failed | RunExit::TooLong => true,
+        RunExit::Done | RunExit::NoMemory => false,
     }
-    exit
+}
+
+/// Whether an end of a pipe failed.
+fn is_pipe_fault(exit: PipeExit) -> bool
+    ensures { result ≡ is_pipe_fault exit }
+{
+    match exit {
+        PipeExit::Failed => true,
+        PipeExit::Done | PipeExit::NoMemory => false,
+    }
+}
+
+/// Counts a child or a pipe that failed.
+fn count(failed: bool, faults: &mut u64)
+    ensures rose { failed ≡ true → Rose faults.old faults.new }
+    ensures keeps { failed ≡ false → faults.new ≡ faults.old }
+    ensures later { faults.old ≤ faults.new }
+{
+    if failed {
+        *faults = faults.saturating_add(1);
+    }
 }
 
 impl<P: Processes> Spawn for RealSpawn<P> {
@@ -138,6 +72,13 @@ impl<P: Processes> Spawn for RealSpawn<P> {
 
     fn run(&mut self, argv: &[String], out: &mut Vec<u8>) -> RunExit {
         let exit = run_to_end(&self.rt, self.alloc, argv, out);
-        counted(exit, &mut self.faults)
+        count(is_child_fault(exit), &mut self.faults);
+        exit
+    }
+
+    fn pipe(&mut self, send: &[String], receive: &[String]) -> PipeExit {
+        let exit = pipe_to_end(&self.rt, self.alloc, send, receive);
+        count(is_pipe_fault(exit), &mut self.faults);
+        exit
     }
 }

@@ -6,8 +6,11 @@ ghost use Rattle.std.specs.Prelude.{◌≡◌, IfOk, vec_len};
 mod children;
 mod clock;
 mod files;
+mod input;
 mod output;
+mod piping;
 mod reading;
+mod running;
 
 use children::RealSpawn;
 use clock::RealClock;

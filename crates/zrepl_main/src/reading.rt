@@ -1,6 +1,7 @@
-ghost use Rattle.std.specs.Prelude.{◌≡◌, ◌≢◌, ◌≤◌, Some, vec_len};
+ghost use Rattle.std.specs.Prelude.{◌≡◌, ◌≢◌, ◌≤◌, IfOk, Some, length, vec_len};
 
 use std::alloc::{AllocError, Global};
+use std::io;
 use std::io::{ErrorKind, Read};
 
 /// How many bytes are asked for at once.
@@ -36,6 +37,19 @@ fn keep(read: &mut Vec<u8>, piece: &[u8], limit: usize) -> Option<Reading>
     }
 }
 
+/// Reads once, and again where a signal came first.
+pub fn read_some<R: Read>(from: &mut R, buffer: &mut [u8]) -> io::Result<usize>
+    ensures { IfOk result (λ count. count ≤ length buffer.new) }
+{
+    for _ in 0..u64::MAX {
+        match from.read(buffer) {
+            Err(fault) if fault.kind() == ErrorKind::Interrupted => {}
+            answer => return answer,
+        }
+    }
+    Err(io::Error::from(ErrorKind::Interrupted))
+}
+
 /// Reads through a buffer to the reader's end, or up to a limit, behind what was read.
 fn read_through<R: Read>(
     from: &mut R,
@@ -48,14 +62,13 @@ fn read_through<R: Read>(
     ensures full { result ≡ Reading.TooLong → vec_len read.new ≡ limit }
 {
     for _ in 0..u64::MAX {
-        match from.read(buffer) {
+        match read_some(from, buffer) {
             Ok(0) => return Reading::Whole,
             Ok(count) => {
                 if let Some(end) = keep(read, &buffer[..count], limit) {
                     return end;
                 }
             }
-            Err(fault) if fault.kind() == ErrorKind::Interrupted => {}
             Err(_) => return Reading::Failed,
         }
     }

@@ -1,0 +1,13 @@
+use Rattle.zr_cmd.proofs.reading.fits.Goals as goal
+
+pub returns-in-Path : goal.returns-in-Path
+returns-in-Path c = rw c.in-Path.is c.is_path.ensures
+
+pub returns-in-Snap : goal.returns-in-Snap
+returns-in-Snap c = rw c.in-Snap.is c.is_full.ensures
+
+pub returns-in-Mark : goal.returns-in-Mark
+returns-in-Mark c = rw c.in-Mark.is c.is_full-in-Mark.ensures
+
+pub returns-in-Tag : goal.returns-in-Tag
+returns-in-Tag c = rw c.in-Tag.is c.is_job_tag.ensures

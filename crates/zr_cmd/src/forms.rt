@@ -1,0 +1,157 @@
+use zr_names::{MarkName, Path, SnapName};
+use zr_world::Cmd;
+
+/// One call of `zfs`, as its words tell it.
+#[derive(Clone, Debug, PartialEq, Eq, Drop)]
+pub enum Call {
+    /// A command that is one call; a transfer is none.
+    One(Cmd),
+    /// Sends a whole snapshot (zfs-send(8)).
+    SendFull(Path, SnapName),
+    /// Sends what changed since a bookmark of the same dataset (zfs-send(8), `-i`).
+    SendFrom(Path, MarkName, SnapName),
+    /// Receives into a dataset, by force or not (zfs-receive(8), `-F`).
+    Receive(Path, bool),
+}
+
+/// What one word of a form is.
+#[derive(Clone, Copy)]
+pub enum Part {
+    /// This text.
+    Fixed(&'static str),
+    /// The path of a dataset.
+    Path,
+    /// The full name of a snapshot.
+    Snap,
+    /// The full name of a bookmark.
+    Mark,
+    /// The full name of a snapshot of the dataset in the word before.
+    SnapOfSame,
+    /// The full name of a bookmark of the dataset in the word before.
+    MarkOfSame,
+    /// The tag of a job.
+    Tag,
+}
+
+/// How the words of a call are laid out.
+#[derive(Clone, Copy, Debug, PartialEq, Eq)]
+pub enum Form {
+    Sets,
+    Versions,
+    Holds,
+    Hold,
+    Release,
+    BookmarkSnap,
+    BookmarkMark,
+    DestroySnap,
+    DestroyMark,
+    SendFull,
+    SendFrom,
+    Receive,
+    ReceiveForced,
+}
+
+pub(crate) const FORMS: [Form; 13] = [
+    Form::Sets,
+    Form::Versions,
+    Form::Holds,
+    Form::Hold,
+    Form::Release,
+    Form::BookmarkSnap,
+    Form::BookmarkMark,
+    Form::DestroySnap,
+    Form::DestroyMark,
+    Form::SendFull,
+    Form::SendFrom,
+    Form::Receive,
+    Form::ReceiveForced,
+];
+
+const SETS: [Part; 7] = [
+    Part::Fixed("list"),
+    Part::Fixed("-H"),
+    Part::Fixed("-p"),
+    Part::Fixed("-t"),
+    Part::Fixed("filesystem,volume"),
+    Part::Fixed("-o"),
+    Part::Fixed("name,zrepl:placeholder,receive_resume_token"),
+];
+
+const VERSIONS: [Part; 12] = [
+    Part::Fixed("list"),
+    Part::Fixed("-H"),
+    Part::Fixed("-p"),
+    Part::Fixed("-d"),
+    Part::Fixed("1"),
+    Part::Fixed("-t"),
+    Part::Fixed("snapshot,bookmark"),
+    Part::Fixed("-s"),
+    Part::Fixed("createtxg"),
+    Part::Fixed("-o"),
+    Part::Fixed("name,guid,createtxg,creation,userrefs"),
+    Part::Path,
+];
+
+const HOLDS: [Part; 3] = [Part::Fixed("holds"), Part::Fixed("-H"), Part::Snap];
+
+const HOLD: [Part; 3] = [Part::Fixed("hold"), Part::Tag, Part::Snap];
+
+const RELEASE: [Part; 3] = [Part::Fixed("release"), Part::Tag, Part::Snap];
+
+const BOOKMARK_SNAP: [Part; 3] = [Part::Fixed("bookmark"), Part::Snap, Part::MarkOfSame];
+
+const BOOKMARK_MARK: [Part; 3] = [Part::Fixed("bookmark"), Part::Mark, Part::MarkOfSame];
+
+const DESTROY_SNAP: [Part; 2] = [Part::Fixed("destroy"), Part::Snap];
+
+const DESTROY_MARK: [Part; 2] = [Part::Fixed("destroy"), Part::Mark];
+
+const SEND_FULL: [Part; 2] = [Part::Fixed("send"), Part::Snap];
+
+const SEND_FROM: [Part; 4] = [
+    Part::Fixed("send"),
+    Part::Fixed("-i"),
+    Part::Mark,
+    Part::SnapOfSame,
+];
+
+const RECEIVE: [Part; 4] = [
+    Part::Fixed("receive"),
+    Part::Fixed("-s"),
+    Part::Fixed("-u"),
+    Part::Path,
+];
+
+const RECEIVE_FORCED: [Part; 5] = [
+    Part::Fixed("receive"),
+    Part::Fixed("-s"),
+    Part::Fixed("-u"),
+    Part::Fixed("-F"),
+    Part::Path,
+];
+
+impl Form {
+    ghost use Rattle.std.specs.Prelude.{◌≡◌, map};
+    ghost use Rattle.zr_cmd.specs.Forms.{pattern_of, patterns_of};
+
+    #[tactic(auto, unfolding(crate::specs::Words::sets_words, crate::specs::Words::versions_words))]
+    pub(crate) fn parts(self) -> &'static [Part]
+        ensures { map pattern_of result.now ≡ patterns_of self }
+    {
+        match self {
+            Form::Sets => &SETS,
+            Form::Versions => &VERSIONS,
+            Form::Holds => &HOLDS,
+            Form::Hold => &HOLD,
+            Form::Release => &RELEASE,
+            Form::BookmarkSnap => &BOOKMARK_SNAP,
+            Form::BookmarkMark => &BOOKMARK_MARK,
+            Form::DestroySnap => &DESTROY_SNAP,
+            Form::DestroyMark => &DESTROY_MARK,
+            Form::SendFull => &SEND_FULL,
+            Form::SendFrom => &SEND_FROM,
+            Form::Receive => &RECEIVE,
+            Form::ReceiveForced => &RECEIVE_FORCED,
+        }
+    }
+}

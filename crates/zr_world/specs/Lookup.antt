@@ -1,0 +1,77 @@
+use Rattle.std.specs.Prelude.{◌==◌, ◌&&◌, ℕ, Bool, true, false, not, List, [], Option, nat_eq, ◌∷◌, find, is_some, is_none, drop, length, nat_lt, reverse, take}
+use Rattle.std.specs.Cmp.Lexicographic.{pointwise}
+use Rattle.std.specs.List.{list_any}
+use Rattle.std.specs.Option.{option_and_then, option_map_or}
+use Rattle.zr_names.specs.declared.unit.Guid.{Guid}
+use Rattle.zr_world.specs.declared.pools.Dataset.{Dataset}
+use Rattle.zr_world.specs.declared.pools.Pools.{Pools}
+use Rattle.zr_world.specs.declared.pools.Version.{Version}
+use Rattle.zr_world.specs.declared.version.VersionName.{VersionName}
+use Rattle.zr_world.specs.declared.version.VersionName.TheVariants.{Snap, Mark}
+
+-- two texts are equal
+abbrev pub same_text : List ℕ → List ℕ → Bool
+same_text one other = pointwise nat_eq one other
+
+-- two names are of one kind, and equal
+abbrev pub same_name : VersionName → VersionName → Bool
+same_name (Snap one) (Snap other) = same_text other one
+same_name (Snap one) (Mark other) = false
+same_name (Mark one) (Snap other) = false
+same_name (Mark one) (Mark other) = same_text other one
+
+-- the version has this name
+abbrev pub has_name : VersionName → Version → Bool
+has_name name version = same_name name version.name
+
+abbrev pub names_snapshot : VersionName → Bool
+names_snapshot (Snap name) = true
+names_snapshot (Mark name) = false
+
+abbrev pub is_snapshot : Version → Bool
+is_snapshot version = names_snapshot version.name
+
+-- the dataset has this path
+abbrev pub is_at : List ℕ → Dataset → Bool
+is_at path set = same_text set.path path
+
+abbrev pub dataset_at : Pools → List ℕ → Option Dataset
+dataset_at pools path = find (is_at path) pools.sets
+
+-- the version of this name of the dataset at this path
+abbrev pub version_at : Pools → List ℕ → VersionName → Option Version
+version_at pools path name = option_and_then (λ set. find (has_name name) set.versions) (dataset_at pools path)
+
+-- the tags of its holds
+abbrev pub tags_at : Pools → List ℕ → VersionName → List (List ℕ)
+tags_at pools path name = option_map_or (λ version. version.tags) (version_at pools path name) []
+
+abbrev pub has_guid : Guid → Version → Bool
+has_guid guid version = version.guid.0 == guid.0
+
+-- a version of this name and guid stands in the dataset at this path
+abbrev pub stands : Pools → List ℕ → VersionName → Guid → Bool
+stands pools path name guid = option_map_or (has_guid guid) (version_at pools path name) false
+
+-- a dataset's newest snapshot is its last one
+abbrev pub newest : Dataset → Option Version
+newest set = find is_snapshot (reverse set.versions)
+
+-- behind a parent's path stand a slash and one component
+abbrev pub is_component : List ℕ → Bool
+is_component [] = false
+is_component (b ∷ name) = (b == 47) && not (list_any (λ c. c == 47) name)
+
+-- the dataset is the parent of this path
+abbrev pub is_parent : List ℕ → Dataset → Bool
+is_parent path set =
+    nat_lt (length set.path) (length path)
+    && same_text (take (length set.path) path) set.path
+    && is_component (drop (length set.path) path)
+
+abbrev pub parent_at : Pools → List ℕ → Option Dataset
+parent_at pools path = find (is_parent path) pools.sets
+
+-- a dataset is in its first receive: it has a partial receive, no snapshot and no placeholder flag
+abbrev pub in_first_receive : Dataset → Bool
+in_first_receive set = is_some set.partial && is_none (newest set) && not set.placeholder

@@ -1,0 +1,219 @@
+ghost use Rattle.std.specs.Prelude.{◌≡◌, ◌∷◌, [], None, Some, false, is_none, not};
+ghost use Rattle.std.specs.Option.{option_copied, option_map_or};
+ghost use Rattle.zr_names.specs.Marks.{tag_text};
+ghost use Rattle.zr_world.specs.Lookup.{has_guid, same_text, tags_at, version_at};
+ghost use Rattle.zr_world.specs.Reasons.{
+  first_that_applies,
+  full_reasons,
+  increment_reasons,
+  is_spent,
+  is_tagged,
+  reasons,
+  refusal,
+  source_reasons,
+  target_reasons,
+};
+ghost use Rattle.zr_world.specs.declared.command.Cmd.TheVariants as cmd;
+ghost use Rattle.zr_world.specs.declared.effects.Refusal.TheVariants.{NoSuch, Spent};
+ghost use Rattle.zr_world.specs.declared.version.VersionName.TheVariants.{Snap};
+
+use crate::command::{Base, Cmd, Transfer};
+use crate::effects::Refusal;
+use crate::pools::{Dataset, Pools, Version};
+use crate::version::VersionName;
+use zr_names::{Guid, JobName, MarkName, Path, SnapName, Tag, TagKind, is_tag};
+
+/// Whether a tag is that of a job's holds of a kind.
+pub(crate) fn is_of(tag: &Tag, kind: TagKind, job: &JobName) -> bool
+    ensures { result ≡ same_text tag.now (tag_text kind job.now) }
+{
+    is_tag(tag, kind, job)
+}
+
+/// Whether a job's hold of a kind is among these.
+fn is_tagged(tags: &[Tag], kind: TagKind, job: &JobName) -> bool
+    ensures { result ≡ is_tagged tags.now (tag_text kind job.now) }
+{
+    tags.iter().any(|tag| is_of(tag, kind, job))
+}
+
+/// The tags of the holds on a snapshot.
+pub(crate) fn tags_at<'a>(pools: &'a Pools, path: &Path, name: &SnapName) -> &'a [Tag]
+    ensures { result.now ≡ tags_at pools.entry.now path.now (Snap name.now) }
+{
+    match pools.snap(path, name) {
+        Some(version) => version.tags.as_slice(),
+        None => &[],
+    }
+}
+
+/// Whether a version is there and has this guid.
+fn has_guid(found: Option<&Version>, guid: Guid) -> bool
+    ensures { result ≡ option_map_or (has_guid guid) (option_copied found.entry) false }
+{
+    match found {
+        Some(version) => version.has_guid(guid),
+        None => false,
+    }
+}
+
+fn is_spent(pools: &Pools) -> bool
+    ensures { result ≡ is_spent pools.entry.now }
+{
+    pools.next_txg == u64::MAX
+}
+
+/// Why a sending end refuses.
+fn source_refusal(pools: &Pools, transfer: &Transfer) -> Option<Refusal>
+    ensures { result ≡ first_that_applies (source_reasons pools.entry.now (cmd.Transfer transfer.now)) }
+{
+    if !has_guid(pools.snap(&transfer.source, &transfer.to), transfer.guid) {
+        return Some(Refusal::NoSuch);
+    }
+    match &transfer.base {
+        Base::From(mark, guid) if !has_guid(pools.mark(&transfer.source, mark), *guid) => {
+            Some(Refusal::NoSuch)
+        }
+        Base::Full | Base::From(_, _) => None,
+    }
+}
+
+fn spent_refusal(pools: &Pools) -> Option<Refusal>
+    ensures { result ≡ first_that_applies ((is_spent pools.entry.now, Spent) ∷ []) }
+{
+    if is_spent(pools) {
+        Some(Refusal::Spent)
+    } else {
+        None
+    }
+}
+
+/// Why a full receive is refused where there is no target yet.
+fn first_refusal(pools: &Pools, transfer: &Transfer) -> Option<Refusal>
+    ensures { result ≡ first_that_applies (full_reasons pools.entry.now transfer.now None) }
+{
+    match pools.parent(&transfer.target) {
+        None => Some(Refusal::NoSuch),
+        Some(parent) if parent.in_first_receive() => Some(Refusal::HasPartial),
+        Some(_) => spent_refusal(pools),
+    }
+}
+
+/// Why a full receive onto a dataset is refused.
+fn forced_refusal(pools: &Pools, transfer: &Transfer, set: &Dataset) -> Option<Refusal>
+    ensures { result ≡ first_that_applies (full_reasons pools.entry.now transfer.now (Some set.now)) }
+{
+    if set.partial.is_some() {
+        return Some(Refusal::HasPartial);
+    }
+    if set.newest().is_some() || !transfer.force {
+        return Some(Refusal::Exists);
+    }
+    spent_refusal(pools)
+}
+
+/// Why the receive of an increment from a snapshot of this guid is refused.
+fn increment_refusal(
+    pools: &Pools,
+    transfer: &Transfer,
+    guid: Guid,
+    set: &Dataset,
+) -> Option<Refusal>
+    ensures { result ≡
+        first_that_applies (increment_reasons pools.entry.now transfer.now guid (Some set.now)) }
+{
+    if set.partial.is_some() {
+        return Some(Refusal::HasPartial);
+    }
+    if !has_guid(set.newest(), guid) {
+        return Some(Refusal::NotNewest);
+    }
+    if pools.snap(&transfer.target, &transfer.to).is_some() {
+        return Some(Refusal::Exists);
+    }
+    spent_refusal(pools)
+}
+
+/// Why a receiving end refuses.
+fn target_refusal(pools: &Pools, transfer: &Transfer) -> Option<Refusal>
+    ensures { result ≡
+        first_that_applies (target_reasons pools.entry.now transfer.now transfer.now.base) }
+{
+    match (&transfer.base, pools.dataset(&transfer.target)) {
+        (Base::Full, Some(set)) => forced_refusal(pools, transfer, set),
+        (Base::Full, None) => first_refusal(pools, transfer),
+        (Base::From(_, guid), Some(set)) => increment_refusal(pools, transfer, *guid, set),
+        (Base::From(_, _), None) => Some(Refusal::NoSuch),
+    }
+}
+
+/// Refuses what is not there.
+fn unless_there(there: bool) -> Option<Refusal>
+    ensures { result ≡ first_that_applies ((not there, NoSuch) ∷ []) }
+{
+    if there { None } else { Some(Refusal::NoSuch) }
+}
+
+/// Refuses a snapshot that is not there, and then for this reason.
+fn unless_snap(
+    pools: &Pools,
+    path: &Path,
+    name: &SnapName,
+    applies: bool,
+    why: Refusal,
+) -> Option<Refusal>
+    ensures { result ≡ first_that_applies
+        ((is_none (version_at pools.entry.now path.now (Snap name.now)), NoSuch) ∷ (applies, why) ∷ []) }
+{
+    if pools.snap(path, name).is_none() {
+        return Some(Refusal::NoSuch);
+    }
+    if applies { Some(why) } else { None }
+}
+
+/// Why a bookmark is refused.
+fn bookmark_refusal(
+    pools: &Pools,
+    path: &Path,
+    version: &VersionName,
+    mark: &MarkName,
+) -> Option<Refusal>
+    ensures { result ≡
+        first_that_applies (reasons pools.entry.now (cmd.Bookmark path.now version.now mark.now)) }
+{
+    if pools.version(path, version).is_none() {
+        return Some(Refusal::NoSuch);
+    }
+    match pools.mark(path, mark) {
+        Some(_) => Some(Refusal::Exists),
+        None => None,
+    }
+}
+
+/// Why a command is refused, the first reason that applies.
+pub(crate) fn refusal(pools: &Pools, cmd: &Cmd) -> Option<Refusal>
+    ensures { result ≡ refusal pools.entry.now cmd.now }
+{
+    match cmd {
+        Cmd::Sets => None,
+        Cmd::Versions(path) => unless_there(pools.dataset(path).is_some()),
+        Cmd::Holds(path, name) => unless_there(pools.snap(path, name).is_some()),
+        Cmd::Hold(kind, job, path, name) => {
+            let held = is_tagged(tags_at(pools, path, name), *kind, job);
+            unless_snap(pools, path, name, held, Refusal::TagThere)
+        }
+        Cmd::Release(kind, job, path, name) => {
+            let held = is_tagged(tags_at(pools, path, name), *kind, job);
+            unless_snap(pools, path, name, !held, Refusal::TagMissing)
+        }
+        Cmd::Bookmark(path, version, mark) => bookmark_refusal(pools, path, version, mark),
+        Cmd::DestroySnap(path, name) => {
+            let held = !tags_at(pools, path, name).is_empty();
+            unless_snap(pools, path, name, held, Refusal::Held)
+        }
+        Cmd::DestroyMark(path, mark) => unless_there(pools.mark(path, mark).is_some()),
+        Cmd::Transfer(transfer) => {
+            source_refusal(pools, transfer).or_else(|| target_refusal(pools, transfer))
+        }
+    }
+}

@@ -1,0 +1,109 @@
+ghost use Rattle.std.specs.Prelude.{◌≡◌, ◌≢◌, ◌↔◌, ℕ, true};
+ghost use Rattle.std.specs.Process.{child_status};
+ghost use Rattle.zr_pipe.specs.Relay.{is_read_fault, is_write_fault};
+ghost use Rattle.zrepl_main.specs.Ended.{EndedWell};
+
+use crate::input::Input;
+use crate::output::Output;
+use crate::running::{put_down, start, unended, wait_for};
+use std::alloc::Global;
+use std::process::{Child, OpenProcess, Processes, Stdio};
+use zr_exec::{PipeExit, RunExit};
+use zr_pipe::{RelayEnd, relay};
+
+/// Moves what the sending end writes to the receiving end, whose input stays open.
+fn move_all<S: OpenProcess>(
+    alloc: Global,
+    sender: &mut Child<S>,
+    receiver: &mut Child<S>,
+) -> RelayEnd {
+    match (&mut sender.stdout, &mut receiver.stdin) {
+        (Some(from), Some(to)) => relay(alloc, &mut Input::new(from), &mut Output::new(to)),
+        _ => RelayEnd::ReadFault(0),
+    }
+}
+
+/// The end of a pipe by the ends of its two children.
+fn joined(sent: RunExit, received: RunExit) -> PipeExit
+    ensures done { (result ≡ PipeExit.Done) ↔ (sent ≡ RunExit.Done) × (received ≡ RunExit.Done) }
+    ensures memory { sent ≢ RunExit.NoMemory → received ≢ RunExit.NoMemory → result ≢ PipeExit.NoMemory }
+{
+    match (sent, received) {
+        (RunExit::Done, RunExit::Done) => PipeExit::Done,
+        (RunExit::NoMemory, _) | (_, RunExit::NoMemory) => PipeExit::NoMemory,
+        _ => PipeExit::Failed,
+    }
+}
+
+/// Waits for both, the receiving end first, which then sees the end of its input.
+fn wait_for_both<S: OpenProcess>(sender: &mut Child<S>, receiver: &mut Child<S>) -> PipeExit
+    ensures sent { result ≡ PipeExit.Done → EndedWell (child_status sender.new) }
+    ensures received { result ≡ PipeExit.Done → EndedWell (child_status receiver.new) }
+{
+    let received = wait_for(receiver);
+    let sent = wait_for(sender);
+    joined(sent, received)
+}
+
+/// Ends both, the receiving end first, so that it never takes what came for the whole.
+fn put_both_down<S: OpenProcess>(sender: &mut Child<S>, receiver: &mut Child<S>) {
+    put_down(receiver);
+    put_down(sender);
+}
+
+/// Ends two children whose relay has ended. Only where all came over may they end by themselves.
+fn finish<S: OpenProcess>(end: RelayEnd, sender: &mut Child<S>, receiver: &mut Child<S>) -> PipeExit
+    ensures whole { result ≡ PipeExit.Done → (moved : ℕ) × (end ≡ RelayEnd.Whole moved) }
+    ensures sent { result ≡ PipeExit.Done → EndedWell (child_status sender.new) }
+    ensures received { result ≡ PipeExit.Done → EndedWell (child_status receiver.new) }
+    ensures read_fault { is_read_fault end ≡ true → result ≡ PipeExit.Failed }
+    ensures write_fault { is_write_fault end ≡ true → result ≡ PipeExit.Failed }
+    ensures limit { end ≡ RelayEnd.Limit → result ≡ PipeExit.Failed }
+    ensures memory { end ≡ RelayEnd.NoMemory → result ≡ PipeExit.NoMemory }
+{
+    let exit = match end {
+        RelayEnd::Whole(_) => return wait_for_both(sender, receiver),
+        RelayEnd::ReadFault(_) | RelayEnd::WriteFault(_) | RelayEnd::Limit => PipeExit::Failed,
+        RelayEnd::NoMemory => PipeExit::NoMemory,
+    };
+    put_both_down(sender, receiver);
+    exit
+}
+
+/// Runs two children that were started to their ends.
+fn join<S: OpenProcess>(alloc: Global, sender: &mut Child<S>, receiver: &mut Child<S>) -> PipeExit
+    ensures sent { result ≡ PipeExit.Done → EndedWell (child_status sender.new) }
+    ensures received { result ≡ PipeExit.Done → EndedWell (child_status receiver.new) }
+{
+    let end = move_all(alloc, sender, receiver);
+    finish(end, sender, receiver)
+}
+
+/// Starts the sending end beside a receiving end that was started, and runs both to their ends.
+fn send_to<P: Processes>(
+    rt: &P,
+    alloc: Global,
+    send: &[String],
+    receiver: &mut Child<P::Started>,
+) -> PipeExit {
+    match start(rt, alloc, send, Stdio::null(), Stdio::piped()) {
+        Ok(mut sender) => join(alloc, &mut sender, receiver),
+        Err(fault) => {
+            put_down(receiver);
+            joined(unended(&fault), RunExit::Failed)
+        }
+    }
+}
+
+/// Runs two programs, the second of which reads what the first one writes, to their ends.
+pub fn pipe_to_end<P: Processes>(
+    rt: &P,
+    alloc: Global,
+    send: &[String],
+    receive: &[String],
+) -> PipeExit {
+    match start(rt, alloc, receive, Stdio::piped(), Stdio::null()) {
+        Ok(mut receiver) => send_to(rt, alloc, send, &mut receiver),
+        Err(fault) => joined(RunExit::Failed, unended(&fault)),
+    }
+}

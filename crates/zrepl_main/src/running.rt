@@ -1,0 +1,107 @@
+ghost use Rattle.std.specs.Prelude.{◌≡◌, ◌≢◌, ◌≤◌, vec_len};
+ghost use Rattle.std.specs.Process.{child_status};
+ghost use Rattle.zr_exec.specs.declared.spawn.TheConstants.{LISTING_LIMIT};
+ghost use Rattle.zrepl_main.specs.Ended.{EndedWell};
+
+use crate::reading::{Reading, read_up_to};
+use std::alloc::Global;
+use std::io;
+use std::io::ErrorKind;
+use std::process::{Child, Command, OpenProcess, Processes, Stdio};
+use zr_exec::{LISTING_LIMIT, RunExit};
+
+/// Starts the program that the first word names.
+pub fn start<P: Processes>(
+    rt: &P,
+    alloc: Global,
+    argv: &[String],
+    stdin: Stdio,
+    stdout: Stdio,
+) -> io::Result<Child<P::Started>> {
+    let Some(program) = argv.first() else {
+        return Err(io::Error::from(ErrorKind::InvalidInput));
+    };
+    let mut command = Command::new(alloc, program.as_str())?;
+    for word in &argv[1..] {
+        command.arg(word.as_str())?;
+    }
+    command
+        .stdin(stdin)
+        .stdout(stdout)
+        .stderr(Stdio::inherit())
+        .spawn(rt)
+}
+
+/// The end of a child that was not started, or whose status could not be had.
+pub fn unended(fault: &io::Error) -> RunExit
+    ensures short { result ≢ RunExit.TooLong }
+    ensures not_done { result ≢ RunExit.Done }
+{
+    if fault.kind() == ErrorKind::OutOfMemory {
+        RunExit::NoMemory
+    } else {
+        RunExit::Failed
+    }
+}
+
+/// Waits until a child ends. It sees the end of its input first.
+pub fn wait_for<S: OpenProcess>(child: &mut Child<S>) -> RunExit
+    ensures short { result ≢ RunExit.TooLong }
+    ensures done { result ≡ RunExit.Done → EndedWell (child_status child.new) }
+{
+    match child.wait() {
+        Ok(status) => match status.code() {
+            Some(0) => RunExit::Done,
+            Some(_) => RunExit::Nonzero,
+            None => RunExit::Failed,
+        },
+        Err(fault) => unended(&fault),
+    }
+}
+
+/// Ends a child that is of no more use, and waits for it.
+pub fn put_down<S: OpenProcess>(child: &mut Child<S>) {
+    let _ = child.kill();
+    let _ = child.wait();
+}
+
+/// Reads what a child writes, up to the limit.
+fn listen<S: OpenProcess>(alloc: Global, child: &mut Child<S>, out: &mut Vec<u8>) -> Reading
+    ensures within { vec_len out.new ≤ LISTING_LIMIT }
+    ensures full { result ≡ Reading.TooLong → vec_len out.new ≡ LISTING_LIMIT }
+{
+    match child.stdout.take() {
+        Some(mut stdout) => read_up_to(alloc, &mut stdout, out, LISTING_LIMIT),
+        None => {
+            out.clear();
+            Reading::Failed
+        }
+    }
+}
+
+/// Runs a program to its end.
+pub fn run_to_end<P: Processes>(
+    rt: &P,
+    alloc: Global,
+    argv: &[String],
+    out: &mut Vec<u8>,
+) -> RunExit
+    ensures within { vec_len out.new ≤ LISTING_LIMIT }
+    ensures full { result ≡ RunExit.TooLong → vec_len out.new ≡ LISTING_LIMIT }
+{
+    let mut child = match start(rt, alloc, argv, Stdio::null(), Stdio::piped()) {
+        Ok(child) => child,
+        Err(fault) => {
+            out.clear();
+            return unended(&fault);
+        }
+    };
+    let exit = match listen(alloc, &mut child, out) {
+        Reading::Whole => return wait_for(&mut child),
+        Reading::TooLong => RunExit::TooLong,
+        Reading::Failed => RunExit::Failed,
+        Reading::NoMemory => RunExit::NoMemory,
+    };
+    put_down(&mut child);
+    exit
+}
