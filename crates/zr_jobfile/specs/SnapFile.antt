@@ -60,7 +60,13 @@ snap_file name pattern count = one_job_file (job_tree name pattern count)
 -- one job of this name with this entry as its filter, which keeps the newest `count` snapshots
 abbrev pub one_job : List ℕ → Entry → ℕ → JobSet
 one_job name entry count = record {
-  jobs = record { name = name; filter = record { entries = entry ∷ [] }; keep_source = LastN count ∷ [] } ∷ [];
+  jobs =
+      record {
+        name = name;
+        filter = record { entries = entry ∷ [] };
+        keep_source = LastN count ∷ [];
+        destination = None;
+      } ∷ [];
 }
 
 -- the text is a pattern that includes, and this is its entry

@@ -48,6 +48,7 @@ fn one_job(alloc: Global, name: JobName, entry: Entry, count: u32) -> Result<Job
         name,
         filter,
         keep_source,
+        destination: None,
     })?;
     Ok(JobSet { jobs })
 }

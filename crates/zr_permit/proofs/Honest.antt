@@ -16,9 +16,10 @@ use Rattle.zr_world.specs.declared.version.VersionRow.{VersionRow}
 use Rattle.zr_permit.specs.declared.job.JobSet.{JobSet}
 use Rattle.zr_permit.specs.declared.job.RuleSpec.{RuleSpec}
 use Rattle.zr_permit.specs.Honest.{IsHonest, MayGo, WasListed}
-use Rattle.zr_permit.specs.Jobs.{job_at, rules_of}
+use Rattle.zr_permit.specs.Jobs.{job_at, pair_of, rules_of}
+use Rattle.zr_permit.specs.Known.{Pair}
 use Rattle.zr_permit.specs.Keep.{doomed, going, going_from, retained}
-use Rattle.zr_permit.specs.Transcript.{Allowed, doomed_in, Legal, LegalAfter, later_of, listed, Permits, rows_told, Transcript, Turn}
+use Rattle.zr_permit.specs.Transcript.{Allowed, doomed_in, Legal, LegalAfter, later_of, listed, Permits, rows_told, Transcript, Turn, Replicates}
 
 no-element : {X : Type 0} (x : X) → Contains [] x → ⊥
 no-element x within = let inside = within.1 in omega arith
@@ -114,6 +115,11 @@ legal-at jobs unit before (first ∷ past) turn later legal =
     let allows : Transcript → Type 0 = λ ts. Allowed jobs unit ts turn.0 in
     subst allows (append_assoc before (first ∷ []) past) (legal-at jobs unit (before ++ first ∷ []) past turn later legal.1)
 
+-- a replication unit destroys no snapshot
+no-destroy : (pair : Option Pair) (past : Transcript) (path name : List ℕ) → Replicates pair past (cmd.DestroySnap path name) → ⊥
+no-destroy None past path name replicates = replicates
+no-destroy (Some pair) past path name replicates = replicates
+
 -- a destroy is permitted by a listing alone
 permits-listed : (jobs : JobSet) (number : ℕ) (unit_work : Work) (past : Transcript) (path name : List ℕ) → Permits jobs number unit_work past (cmd.DestroySnap path name) → WasListed (rules_of (job_at jobs number)) past path name
 permits-listed jobs number (work.PruneSource own) past path name permits = choose (listed own past) refl permits.1 where
@@ -126,6 +132,8 @@ permits-listed jobs number (work.PruneSource own) past path name permits = choos
         told = subst on (sym permits.0) (listed-turn own past rows told);
         may_go = doomed-may (rules_of (job_at jobs number)) rows name within;
       }
+permits-listed jobs number (work.Replicate source) past path name permits =
+    absurd (no-destroy (pair_of (job_at jobs number) source) past path name permits)
 permits-listed jobs number other past path name permits = absurd permits
 
 -- a legal transcript destroys honestly

@@ -6,6 +6,9 @@ use Rattle.zr_names.specs.declared.unit.Unit.{Unit}
 use Rattle.zr_names.specs.declared.unit.Work.{Work}
 use Rattle.zr_names.specs.declared.unit.Work.TheVariants as work
 use Rattle.zr_world.specs.declared.version.SetRow.{SetRow}
+use Rattle.zr_jobs.specs.Targets.{root_of, target_text}
+use Rattle.zr_jobs.specs.declared.target.Destination.{Destination}
+use Rattle.zr_permit.specs.Known.{Pair}
 use Rattle.zr_permit.specs.declared.job.Job.{Job}
 use Rattle.zr_permit.specs.declared.job.JobSet.{JobSet}
 use Rattle.zr_filter.specs.Rule.{matches}
@@ -25,6 +28,16 @@ rules_of (Some job) = job.keep_source
 abbrev pub matches_in : Option Job → List ℕ → Bool
 matches_in None path = false
 matches_in (Some job) path = matches job.filter path
+
+-- where a job puts what it replicates from this source, if it replicates
+abbrev pub pair_in : Job → List ℕ → Option Destination → Option Pair
+pair_in job source None = None
+pair_in job source (Some place) =
+    Some (record { job = job.name; source = source; target = target_text place source; root = root_of place })
+
+abbrev pub pair_of : Option Job → List ℕ → Option Pair
+pair_of None source = None
+pair_of (Some job) source = pair_in job source job.destination
 
 -- the listed paths that a job's filter matches
 abbrev pub matched : Option Job → List SetRow → List (List ℕ)

@@ -1,6 +1,8 @@
 pub mod Honest
 pub mod Jobs
 pub mod Keep
+pub mod Known
+pub mod Replication
 pub mod Result
 pub mod Runs
 pub mod Seen

@@ -10,8 +10,10 @@ use Rattle.zr_world.specs.declared.command.Cmd.TheVariants as cmd
 use Rattle.zr_world.specs.declared.command.Reply.TheVariants as reply
 use Rattle.zr_world.specs.declared.version.VersionRow.{VersionRow}
 use Rattle.zr_permit.specs.declared.job.JobSet.{JobSet}
-use Rattle.zr_permit.specs.Jobs.{job_at, rules_of}
+use Rattle.zr_permit.specs.Jobs.{job_at, pair_of, rules_of}
 use Rattle.zr_permit.specs.Keep.{doomed}
+use Rattle.zr_permit.specs.Known.{known_of, Pair}
+use Rattle.zr_permit.specs.Replication.{MayGive}
 
 -- one command of a unit, and how it was answered
 abbrev pub Turn : Type 0
@@ -63,10 +65,18 @@ abbrev pub doomed_in : JobSet → ℕ → Option (List VersionRow) → List (Lis
 doomed_in jobs number None = []
 doomed_in jobs number (Some rows) = doomed (rules_of (job_at jobs number)) rows
 
+-- what a replication unit may give after its turns: a line a command, by what they told it
+abbrev pub Replicates : Option Pair → Transcript → Cmd → Type 0
+Replicates None past command = ⊥
+Replicates (Some pair) past command = MayGive pair (known_of pair past) command
+
 -- when a unit may give a command, beside what its answers allow: the datasets may be listed by any unit,
 -- the versions of the unit's own dataset by that unit, and a snapshot is destroyed by a prune unit of its
--- dataset alone, where the unit's own listing shows it with no holds and no rule keeps it; nothing else is given
+-- dataset alone, where the unit's own listing shows it with no holds and no rule keeps it; a replication unit
+-- may give what `Replicates` says, and nothing else is given
 abbrev pub Permits : JobSet → ℕ → Work → Transcript → Cmd → Type 0
+Permits jobs number (work.Replicate source) past command =
+    Replicates (pair_of (job_at jobs number) source) past command
 Permits jobs number unit_work past cmd.Sets = ⊤
 Permits jobs number unit_work past (cmd.Versions path) = own_path unit_work ≡ Some path
 Permits jobs number (work.PruneSource own) past (cmd.DestroySnap path name) =

@@ -2,6 +2,7 @@ ghost use Rattle.std.specs.Prelude.{◌≡◌};
 ghost use Rattle.zr_permit.specs.Jobs.{fits};
 
 use zr_filter::{Filter, matches};
+use zr_jobs::Destination;
 use zr_names::{JobName, Path, Rows};
 
 /// The longest path on which a unit works, in bytes: a bookmark's name of the longest kind still fits
@@ -15,13 +16,16 @@ pub enum RuleSpec {
     LastN { count: u32 },
 }
 
-/// A job that prunes the snapshots of the datasets that its filter matches.
+/// A job that works on the datasets that its filter matches: it prunes their snapshots, and replicates them where
+/// it has a destination.
 #[derive(Debug, Drop)]
 pub struct Job {
     pub name: JobName,
     pub filter: Filter,
     /// With no rules nothing is destroyed.
     pub keep_source: Rows<RuleSpec>,
+    /// Where what is replicated goes; a job without one replicates nothing.
+    pub destination: Option<Destination>,
 }
 
 /// The jobs of one file, in its order.

@@ -10,6 +10,7 @@ pub use told::Told;
 pub mod guarded;
 pub mod job;
 pub mod keep;
+pub mod laws;
 pub mod log;
 #[cfg(test)]
 mod tests;

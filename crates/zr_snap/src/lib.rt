@@ -129,6 +129,7 @@ fn capped(count: usize) -> u32
 /// Lists the datasets.
 fn list<Z: Zfs>(g: &mut Guarded<'_, Z>) -> Told
     requires fresh { g.old.log.turns ≡ [] }
+    requires kind { g.old.log.unit.work ≡ work.Scan }
     requires ample { g.old.short ≡ false }
     ensures jobs { g.new.log.jobs ≡ g.old.log.jobs }
     ensures unit { g.new.log.unit ≡ g.old.log.unit }

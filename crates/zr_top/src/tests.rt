@@ -4,7 +4,7 @@ use std::process::Abort;
 use std::sync::Wait;
 use std::test::Fail;
 use std::thread::Threads;
-use zr_exec::{LISTING_LIMIT, Line, MemSpawn, RunExit, Spawn, is_well_formed};
+use zr_exec::{LISTING_LIMIT, Line, MemSpawn, PipeExit, RunExit, Spawn, is_well_formed};
 use zr_names::{Guid, Moment, NoMemory, Rows, Unit, read_path, read_snap, read_tag};
 use zr_pipe::MemSink;
 use zr_world::{Dataset, Extent, Planned, Pools, Version, VersionName};
@@ -333,6 +333,11 @@ impl Spawn for Scripted {
         }
         self.faults = self.faults.saturating_add(1);
         RunExit::Nonzero
+    }
+
+    fn pipe(&mut self, _send: &[String], _receive: &[String]) -> PipeExit {
+        self.faults = self.faults.saturating_add(1);
+        PipeExit::Failed
     }
 }
 
