@@ -1,4 +1,4 @@
-use Rattle.std.proofs.Common.{◌≡◌, ◌≢◌, ℕ, Bool, true, false, not, cond, List, [], ◌∷◌, ◌++◌, Option, Some, None, find, filter, refl, ap, sym, subst, ◌∙◌, reverse}
+use Rattle.std.proofs.Common.{◌≡◌, ◌≢◌, ℕ, Bool, true, false, List, [], ◌∷◌, ◌++◌, Option, Some, None, find, filter, refl, ap, sym, subst, ◌∙◌}
 use Rattle.std.specs.Bool.{if◌then◌else◌}
 use Rattle.std.specs.Cmp.Lexicographic.{bytes_decides, nat_list_eq_equiv}
 use Rattle.std.specs.Option.{option_map_or}
@@ -12,8 +12,11 @@ use Rattle.zr_world.specs.declared.command.Transfer.{Transfer}
 use Rattle.zr_world.specs.declared.version.VersionRow.{VersionRow}
 use Rattle.zr_world.specs.Lookup.{same_text}
 use Rattle.zr_plan.specs.Plan.{is_snap, newest}
-use Rattle.zr_permit.specs.Known.{arrival, is_own, Known, known_after, nothing, Pair, presence_after, told_by, told_transfer, told_versions}
-use Rattle.zr_permit.specs.Replication.{MayGive, newest_known, next_transfer}
+use Rattle.zr_permit.specs.declared.known.Known.{Known}
+use Rattle.zr_permit.specs.declared.known.Pair.{Pair}
+use Rattle.zr_permit.specs.declared.known.Receiving.TheVariants.{Nothing}
+use Rattle.zr_permit.specs.Known.{arrival, is_own, known_after, presence_after, told_by, told_transfer, told_versions}
+use Rattle.zr_permit.specs.Replication.{MayGive, newest_known}
 use Rattle.zr_permit.specs.Transcript.{Transcript, Turn}
 
 -- one turn more
@@ -90,7 +93,7 @@ arrived : (pair : Pair) (transfer : Transfer) (known : Known) → transfer.targe
   target = presence_after known.target;
   rows = option_map_or (λ rows. Some (rows ++ arrival transfer ∷ [])) known.rows None;
   transferred = true;
-  receiving = nothing;
+  receiving = Nothing;
 }
 arrived pair transfer known same = rw (same-target pair transfer same) refl
 
@@ -105,7 +108,7 @@ arrival-newest pair transfer rows known same are =
     ∙ ap (λ (o : Option (List VersionRow)). newest (option_map_or (λ rs. rs) (option_map_or (λ rs. Some (rs ++ arrival transfer ∷ [])) o None) [])) are
     ∙ last-newest rows (arrival transfer) refl
 
-pub arrival-whole : (pair : Pair) (transfer : Transfer) (known : Known) → transfer.target ≡ pair.target → (told_transfer pair transfer known).receiving ≡ nothing
+pub arrival-whole : (pair : Pair) (transfer : Transfer) (known : Known) → transfer.target ≡ pair.target → (told_transfer pair transfer known).receiving ≡ Nothing
 arrival-whole pair transfer known same = ap (λ (k : Known). k.receiving) (arrived pair transfer known same)
 
 pub arrival-marks : (pair : Pair) (transfer : Transfer) (known : Known) → (told_transfer pair transfer known).marks ≡ known.marks
@@ -114,7 +117,7 @@ arrival-marks pair transfer known = choose (same_text transfer.target pair.targe
     target = presence_after known.target;
     rows = option_map_or (λ rows. Some (rows ++ arrival transfer ∷ [])) known.rows None;
     transferred = true;
-    receiving = nothing;
+    receiving = Nothing;
   } else known).marks ≡ known.marks
   choose true = refl
   choose false = refl

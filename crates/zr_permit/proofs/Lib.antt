@@ -7,3 +7,4 @@ pub mod Honest
 pub mod Running
 pub mod Knowing
 pub mod Reading
+pub mod Decisions

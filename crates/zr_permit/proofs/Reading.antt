@@ -11,7 +11,8 @@ use Rattle.zr_world.specs.declared.command.Transfer.{Transfer}
 use Rattle.zr_world.specs.Plain.{plain}
 use Rattle.zr_permit.specs.declared.job.JobSet.{JobSet}
 use Rattle.zr_permit.specs.Jobs.{job_at, pair_of}
-use Rattle.zr_permit.specs.Known.{known_of, Pair}
+use Rattle.zr_permit.specs.declared.known.Pair.{Pair}
+use Rattle.zr_permit.specs.Known.{known_of}
 use Rattle.zr_permit.specs.Transcript.{LegalAfter, Permits, Replicates, Transcript, Turn}
 use Rattle.zr_permit.specs.Turned.{calls}
 use Rattle.zr_permit.proofs.Knowing.{one-transfer}

@@ -8,7 +8,7 @@ use Rattle.zr_names.specs.declared.unit.Work.TheVariants as work
 use Rattle.zr_world.specs.declared.version.SetRow.{SetRow}
 use Rattle.zr_jobs.specs.Targets.{root_of, target_text}
 use Rattle.zr_jobs.specs.declared.target.Destination.{Destination}
-use Rattle.zr_permit.specs.Known.{Pair}
+use Rattle.zr_permit.specs.declared.known.Pair.{Pair}
 use Rattle.zr_permit.specs.declared.job.Job.{Job}
 use Rattle.zr_permit.specs.declared.job.JobSet.{JobSet}
 use Rattle.zr_filter.specs.Rule.{matches}

@@ -19,47 +19,12 @@ use Rattle.zr_world.specs.declared.version.VersionRow.{VersionRow}
 use Rattle.zr_world.specs.Lookup.{same_name, same_text}
 use Rattle.zr_world.specs.Reasons.{is_tagged}
 use Rattle.zr_plan.specs.Plan.{is_snap, kind_in}
-
--- a replication pair: the job, the source, the target, and the root below which the job's targets lie
-pub record Pair : Type 0 where
-  pub job : List ℕ
-  pub source : List ℕ
-  pub target : List ℕ
-  pub root : List ℕ
-
--- what is known of whether a dataset is there, and of its placeholder flag
-pub data Presence : Type 0 where
-  unlisted : Presence
-  absent : Presence
-  there : Bool → Presence
-
--- what is known of a partial receive; what its token tells comes with the command that reads tokens
-pub data Receiving : Type 0 where
-  unknown : Receiving
-  nothing : Receiving
-
--- what a replication unit has been told
-pub record Known : Type 0 where
-  -- the source's last listing
-  pub source : Option (List VersionRow)
-  -- the job's cursors and tentative cursors on the source
-  pub marks : List VersionRow
-  -- the source snapshots with the job's step hold, and those whose holds were listed
-  pub step_held : List (List ℕ)
-  pub source_holds : List (List ℕ)
-  -- the last listing of the datasets
-  pub sets : Option (List SetRow)
-  -- whether the target is there, its last listing, and its versions: those listed, with each snapshot that was
-  -- transferred since
-  pub target : Presence
-  pub listed : Option (List VersionRow)
-  pub rows : Option (List VersionRow)
-  -- the target's snapshots with the job's last-received hold, and those whose holds were listed
-  pub last_held : List (List ℕ)
-  pub target_holds : List (List ℕ)
-  -- whether a transfer was done, and the target's partial receive
-  pub transferred : Bool
-  pub receiving : Receiving
+use Rattle.zr_permit.specs.declared.known.Known.{Known}
+use Rattle.zr_permit.specs.declared.known.Pair.{Pair}
+use Rattle.zr_permit.specs.declared.known.Presence.{Presence}
+use Rattle.zr_permit.specs.declared.known.Presence.TheVariants.{Unlisted, Absent, There}
+use Rattle.zr_permit.specs.declared.known.Receiving.{Receiving}
+use Rattle.zr_permit.specs.declared.known.Receiving.TheVariants.{Unknown, Nothing}
 
 -- nothing was told yet
 abbrev pub nothing_known : Known
@@ -69,13 +34,13 @@ nothing_known = record {
   step_held = [];
   source_holds = [];
   sets = None;
-  target = unlisted;
+  target = Unlisted;
   listed = None;
   rows = None;
   last_held = [];
   target_holds = [];
   transferred = false;
-  receiving = unknown;
+  receiving = Unknown;
 }
 
 -- a bookmark is a cursor or a tentative cursor of the job
@@ -106,19 +71,19 @@ is_row_of name row = same_name name row.name
 -- was absent before and is there now they are not known
 abbrev pub rows_by_sets : Presence → Option SetRow → Option (List VersionRow) → Option (List VersionRow)
 rows_by_sets before None rows = Some []
-rows_by_sets unlisted (Some row) rows = rows
-rows_by_sets absent (Some row) rows = None
-rows_by_sets (there flag) (Some row) rows = rows
+rows_by_sets Unlisted (Some row) rows = rows
+rows_by_sets Absent (Some row) rows = None
+rows_by_sets (There flag) (Some row) rows = rows
 
 abbrev pub presence_by : Option SetRow → Presence
-presence_by None = absent
-presence_by (Some row) = there row.placeholder
+presence_by None = Absent
+presence_by (Some row) = There row.placeholder
 
 -- once a transfer was done there is no partial receive, whatever a later listing of the datasets shows
 abbrev pub receiving_by : Bool → Option SetRow → Receiving
-receiving_by true row = nothing
-receiving_by false None = nothing
-receiving_by false (Some row) = if is_some row.token then unknown else nothing
+receiving_by true row = Nothing
+receiving_by false None = Nothing
+receiving_by false (Some row) = if is_some row.token then Unknown else Nothing
 
 -- the datasets were listed
 abbrev pub told_sets : Pair → List SetRow → Known → Known
@@ -187,9 +152,9 @@ arrival transfer = record { name = Snap transfer.to; guid = transfer.guid; txg =
 
 -- a dataset that a transfer made has no placeholder flag
 abbrev pub presence_after : Presence → Presence
-presence_after unlisted = unlisted
-presence_after absent = there false
-presence_after (there flag) = there flag
+presence_after Unlisted = Unlisted
+presence_after Absent = There false
+presence_after (There flag) = There flag
 
 abbrev pub told_transfer : Pair → Transfer → Known → Known
 told_transfer pair transfer known =
@@ -198,7 +163,7 @@ told_transfer pair transfer known =
       target = presence_after known.target;
       rows = option_map_or (λ rows. Some (rows ++ arrival transfer ∷ [])) known.rows None;
       transferred = true;
-      receiving = nothing;
+      receiving = Nothing;
     }
     else known
 

@@ -1,3 +1,4 @@
+pub mod Deciding
 pub mod Honest
 pub mod Jobs
 pub mod Keep

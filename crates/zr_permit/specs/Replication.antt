@@ -1,8 +1,7 @@
-use Rattle.std.specs.Prelude.{⊤, ◌≡◌, ◌≢◌, ◌⊎◌, ℕ, Bool, true, false, List, [], ◌∷◌, ◌++◌, Option, Some, None, Contains, filter, is_none, is_some, option_map}
+use Rattle.std.specs.Prelude.{⊤, ◌≡◌, ◌≢◌, ◌⊎◌, ℕ, Bool, true, false, List, [], ◌∷◌, ◌++◌, Option, Some, None, Contains, filter, is_none, option_map}
 use Rattle.std.specs.List.{list_any}
 use Rattle.std.specs.Option.{option_map_or}
 use Rattle.zr_names.specs.Marks.{cursor_text}
-use Rattle.zr_names.specs.declared.marks.TagKind.{TagKind}
 use Rattle.zr_names.specs.declared.marks.TagKind.TheVariants.{Step, Last}
 use Rattle.zr_names.specs.declared.policy.Initial.TheVariants.{MostRecent}
 use Rattle.zr_world.specs.declared.command.Base.TheVariants as base
@@ -18,7 +17,13 @@ use Rattle.zr_plan.specs.declared.target.Planned.{Planned}
 use Rattle.zr_plan.specs.declared.target.Planned.TheVariants.{Steps}
 use Rattle.zr_plan.specs.declared.target.Step.{Step as OneStep}
 use Rattle.zr_plan.specs.declared.target.Target.{Target}
-use Rattle.zr_permit.specs.Known.{is_among, is_row_of, Known, Pair, Presence, absent, there, unlisted, Receiving, nothing, source_row}
+use Rattle.zr_permit.specs.declared.known.Known.{Known}
+use Rattle.zr_permit.specs.declared.known.Pair.{Pair}
+use Rattle.zr_permit.specs.declared.known.Presence.{Presence}
+use Rattle.zr_permit.specs.declared.known.Presence.TheVariants.{Unlisted, Absent, There}
+use Rattle.zr_permit.specs.declared.known.Receiving.{Receiving}
+use Rattle.zr_permit.specs.declared.known.Receiving.TheVariants.{Nothing}
+use Rattle.zr_permit.specs.Known.{is_among, is_row_of, source_row}
 
 -- the target's newest snapshot, where its versions are known
 abbrev pub newest_known : Known → Option VersionRow
@@ -43,14 +48,14 @@ rows_of_source known rows = filter is_snap rows ++ known.marks
 
 -- what a plan knows of the target, where it is known to be absent, or to be there with its versions
 abbrev pub planned_onto : Presence → Option (List VersionRow) → Option Target
-planned_onto unlisted rows = None
-planned_onto absent rows = Some (record { there = false; placeholder = false; rows = []; partial = None })
-planned_onto (there flag) None = None
-planned_onto (there flag) (Some rows) =
+planned_onto Unlisted rows = None
+planned_onto Absent rows = Some (record { there = false; placeholder = false; rows = []; partial = None })
+planned_onto (There flag) None = None
+planned_onto (There flag) (Some rows) =
     Some (record { there = true; placeholder = flag; rows = rows; partial = None })
 
 abbrev pub plan_between : Pair → Known → Option (List VersionRow) → Option Target → Receiving → Option Planned
-plan_between pair known (Some rows) (Some target) nothing =
+plan_between pair known (Some rows) (Some target) Nothing =
     Some (plan_of pair.job (rows_of_source known rows) target MostRecent)
 plan_between pair known rows target receiving = None
 
@@ -61,9 +66,9 @@ plan_known pair known =
     plan_between pair known known.source (planned_onto known.target known.rows) known.receiving
 
 abbrev pub is_there : Presence → Bool
-is_there unlisted = false
-is_there absent = false
-is_there (there flag) = true
+is_there Unlisted = false
+is_there Absent = false
+is_there (There flag) = true
 
 -- the transfer of a step: in full, forced onto a target that is there, or from the cursor of the target's newest snapshot
 abbrev pub transfer_of_step : Pair → Known → OneStep → Bool → Option Transfer
@@ -152,7 +157,7 @@ pub record MayReleaseLast (pair : Pair) (known : Known) (name : List ℕ) : Type
 -- shows the job's root (a pool that is not imported looks as if nothing were there), or its newest snapshot has its
 -- cursor, which is not what goes, and its last-received hold
 pub record MayClear (pair : Pair) (known : Known) (goes : Option (List ℕ)) : Type 0 where
-  pub no_partial : known.receiving ≡ nothing
+  pub no_partial : known.receiving ≡ Nothing
   pub settled :
       (HasNone known × ShowsSet known pair.root)
       ⊎ ((last : VersionRow) × (name : List ℕ) × IsSettled pair known last name

@@ -12,7 +12,8 @@ use Rattle.zr_world.specs.declared.version.VersionRow.{VersionRow}
 use Rattle.zr_permit.specs.declared.job.JobSet.{JobSet}
 use Rattle.zr_permit.specs.Jobs.{job_at, pair_of, rules_of}
 use Rattle.zr_permit.specs.Keep.{doomed}
-use Rattle.zr_permit.specs.Known.{known_of, Pair}
+use Rattle.zr_permit.specs.declared.known.Pair.{Pair}
+use Rattle.zr_permit.specs.Known.{known_of}
 use Rattle.zr_permit.specs.Replication.{MayGive}
 
 -- one command of a unit, and how it was answered

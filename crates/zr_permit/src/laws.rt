@@ -8,16 +8,10 @@ ghost use Rattle.zr_world.specs.declared.command.Reply.TheVariants as reply;
 ghost use Rattle.zr_world.specs.declared.command.Transfer.{Transfer};
 ghost use Rattle.zr_world.specs.declared.version.SetRow.{SetRow};
 ghost use Rattle.zr_world.specs.declared.version.VersionRow.{VersionRow};
-ghost use Rattle.zr_permit.specs.Known.{
-  arrival,
-  is_own,
-  Known,
-  known_of,
-  nothing_known,
-  Pair,
-  told_by,
-};
-ghost use Rattle.zr_permit.specs.Known as knows;
+ghost use Rattle.zr_permit.specs.declared.known.Known.{Known};
+ghost use Rattle.zr_permit.specs.declared.known.Pair.{Pair};
+ghost use Rattle.zr_permit.specs.declared.known.Receiving.TheVariants as receiving;
+ghost use Rattle.zr_permit.specs.Known.{arrival, is_own, known_of, nothing_known, told_by};
 ghost use Rattle.zr_permit.specs.Replication.{MayGive, newest_known};
 ghost use Rattle.zr_permit.specs.Transcript.{Legal, Transcript, Turn};
 ghost use Rattle.zr_permit.specs.Turned.{calls};
@@ -63,7 +57,7 @@ pub fn a_done_transfer_makes_its_snapshot_the_newest()
         newest_known (told_by pair (cmd.Transfer transfer) (answer.Done reply.Nothing) known)
         ≡ Some (arrival transfer) }
     ensures whole { (pair : Pair) (transfer : Transfer) (known : Known) → transfer.target ≡ pair.target →
-        (told_by pair (cmd.Transfer transfer) (answer.Done reply.Nothing) known).receiving ≡ knows.nothing }
+        (told_by pair (cmd.Transfer transfer) (answer.Done reply.Nothing) known).receiving ≡ receiving.Nothing }
     ensures source { (pair : Pair) (transfer : Transfer) (known : Known) →
         (told_by pair (cmd.Transfer transfer) (answer.Done reply.Nothing) known).marks ≡ known.marks }
 {}
