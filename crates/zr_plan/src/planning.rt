@@ -1,11 +1,11 @@
-ghost use Rattle.std.specs.Prelude.{◌≡◌, ◌++◌, IfOk, OnOk, filter, find, is_some, option_to_list, option_map};
+ghost use Rattle.std.specs.Prelude.{◌≡◌, ◌++◌, IfOk, OnOk, filter, find, is_some, nat_lt, option_to_list, option_map};
 ghost use Rattle.std.specs.Option.{option_copied};
+ghost use Rattle.zr_world.specs.declared.version.VersionRow.{VersionRow};
 ghost use Rattle.zr_plan.specs.Plan.{
   can_go_on,
   conflict_plan,
   has_nothing,
   in_full,
-  is_after_snaps,
   initial_plan,
   is_common,
   is_cursor_of,
@@ -123,20 +123,17 @@ fn newest_common<'a>(
     rows.iter().rev().find(|row| is_common(job, source, row))
 }
 
-/// Whether a row is later than each snapshot with this guid.
-fn is_after_snaps(source: &[VersionRow], guid: Guid, row: &VersionRow) -> bool
-    ensures { result ≡ is_after_snaps source.now guid row.now }
+/// The greatest transaction group of a version of a guid and of the snapshots with this guid.
+fn latest_txg(source: &[VersionRow], guid: Guid, own: &VersionRow) -> u64
+    ensures { (row : VersionRow) → nat_lt result row.txg ≡ is_later source.now guid own.now row }
 {
-    source
-        .iter()
-        .all(|other| !is_snap_of(other, guid) || other.txg < row.txg)
-}
-
-/// Whether a row is later than a version of a guid, and than each snapshot with this guid.
-fn is_later(source: &[VersionRow], guid: Guid, own: &VersionRow, row: &VersionRow) -> bool
-    ensures { result ≡ is_later source.now guid own.now row.now }
-{
-    own.txg < row.txg && is_after_snaps(source, guid, row)
+    let mut latest = own.txg;
+    for row in source {
+        if is_snap_of(row, guid) {
+            latest = latest.max(row.txg);
+        }
+    }
+    latest
 }
 
 /// Adds the increment to a row, if it is a snapshot.
@@ -172,9 +169,10 @@ fn later_steps(
 ) -> Result<Rows<Step>, NoMemory>
     ensures { IfOk result (λ steps. steps ≡ steps_of (filter (is_later source.now guid own.now) source.now)) }
 {
+    let latest = latest_txg(source, guid, own);
     let mut steps = Rows::new(alloc);
     for row in source {
-        if is_later(source, guid, own, row) {
+        if latest < row.txg {
             push_step(&mut steps, row)?;
         }
     }
