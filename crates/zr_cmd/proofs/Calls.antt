@@ -1,14 +1,13 @@
-use Rattle.std.proofs.Common.{◌≡◌, ◌==◌, ◌&&◌, ◌||◌, ℕ, Bool, true, false, cond, List, [], ◌∷◌, ◌++◌, Option, Some, None, nat_eq, refl, ap, ◌∙◌, sym, subst, ◌⊎◌, inl, inr, Result, Ok, Err}
+use Rattle.std.proofs.Common.{◌≡◌, ◌==◌, ◌&&◌, ◌||◌, ℕ, Bool, true, false, cond, List, [], ◌∷◌, ◌++◌, Some, None, nat_eq, refl, ap, ◌∙◌, sym, subst, ◌⊎◌, inl, inr, Result, Ok, Err}
 use Rattle.std.specs.Cmp.Lexicographic.{pointwise}
 use Rattle.std.specs.List.{list_any}
-use Rattle.std.specs.Str.{bytes_eq}
 use Rattle.std.proofs.lemmas.Cmp.{nat_list_eq_equiv}
 use Rattle.std.proofs.lemmas.Slice.Eq.{bytes_eq-Decides}
 use Rattle.zr_world.specs.declared.command.Cmd.TheVariants as cmd
 use Rattle.zr_world.specs.declared.version.VersionName.TheVariants as version
 use Rattle.zr_cmd.specs.Calls.{call_of, form_for, has_words}
 use Rattle.zr_cmd.specs.Forms.{is_sign, read_as}
-use Rattle.zr_cmd.specs.Words.{Begins, IsNamed, IsUnknown, Reads, Spells, sets_words, versions_words, words_of}
+use Rattle.zr_cmd.specs.Words.{IsNamed, IsUnknown, Reads, Spells, sets_words, versions_words, words_of}
 use Rattle.zr_cmd.specs.declared.argv.ArgvFault.{ArgvFault}
 use Rattle.zr_cmd.specs.declared.argv.ArgvFault.TheVariants.{UnknownCommand, BadWord, NoMemory}
 use Rattle.zr_cmd.specs.declared.forms.Call.{Call}

@@ -1,13 +1,10 @@
-use Rattle.std.proofs.Common.{◌≡◌, ◌≢◌, ℕ, ◌+◌, ◌<◌, Bool, true, false, not, List, [], ◌∷◌, ◌++◌, length, get_or, take, drop, refl, arith, ap, ◌∙◌, sym, subst, length-append, length-take, min}
-use Rattle.std.specs.Bool.{Decides}
+use Rattle.std.proofs.Common.{◌≡◌, ℕ, ◌+◌, true, List, [], ◌∷◌, ◌++◌, length, take, drop, refl, arith, ap, ◌∙◌}
 use Rattle.std.specs.List.{position_or_len}
 use Rattle.std.proofs.Math.Seq.{drop-append-add, take-append_seam}
-use Rattle.std.proofs.lemmas.List.{get_or_at}
-use Rattle.std.proofs.lemmas.List.Sums.{split_at_first}
 use Rattle.zr_names.specs.Marks.{tag_front, tag_text}
 use Rattle.zr_names.specs.declared.marks.TagKind.{TagKind}
 use Rattle.zr_names.specs.declared.marks.TagKind.TheVariants.{Step, Last}
-use Rattle.zr_cmd.specs.Forms.{is_sign, set_part, name_part, kind_part, job_part, IsFull, IsJobTag}
+use Rattle.zr_cmd.specs.Forms.{is_sign, set_part, name_part, kind_part, IsFull, IsJobTag}
 use Rattle.zr_cmd.specs.Words.{IsJob, IsPath, IsVersion}
 use Rattle.zr_cmd.proofs.Texts.{ArePlain, path-plain}
 

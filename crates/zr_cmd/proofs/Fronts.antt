@@ -1,8 +1,8 @@
-use Rattle.std.proofs.Common.{◌≡◌, ℕ, zero, suc, ◌+◌, ◌-◌, ◌<◌, ◌≤◌, ◌&&◌, Bool, true, false, List, [], ◌∷◌, ◌++◌, length, get_or, take, drop, map, refl, arith, ap, ◌∙◌, sym, subst, length-append}
+use Rattle.std.proofs.Common.{◌≡◌, ℕ, zero, suc, ◌-◌, ◌<◌, ◌≤◌, ◌&&◌, Bool, true, false, List, [], ◌∷◌, ◌++◌, length, get_or, take, refl, arith, ap, ◌∙◌, sym, subst, length-append}
 use Rattle.std.specs.Bool.{⊤}
-use Rattle.std.proofs.lemmas.List.{get_or-take, length-take-le, take_all}
+use Rattle.std.proofs.lemmas.List.{get_or-take, length-take-le}
 use Rattle.zr_names.specs.Marks.{tag_text}
-use Rattle.zr_names.specs.Names.{IsName, path_is_bad, name_is_bad}
+use Rattle.zr_names.specs.Names.{path_is_bad, name_is_bad}
 use Rattle.zr_names.specs.declared.marks.TagKind.TheVariants.{Step}
 use Rattle.zr_cmd.specs.Forms.{Fits, Pattern, fixed, a_path, a_snap, a_mark, same_snap, same_mark, a_tag, set_part}
 use Rattle.zr_cmd.specs.Steps.{FitsAt}

@@ -1,9 +1,9 @@
 use Rattle.std.proofs.Common.{◌≡◌, ℕ, zero, suc, ◌+◌, ◌<◌, ◌≤◌, List, [], ◌∷◌, ◌++◌, length, get_or, take, refl, arith, ap, ◌∙◌, sym, subst, ◌⊎◌, inl, inr, Err, max}
 use Rattle.std.proofs.lemmas.List.{append-nil, take_all}
 use Rattle.zr_cmd.specs.Forms.{fixed, Pattern, patterns_of, read_as}
-use Rattle.zr_cmd.specs.Steps.{FitsAt, IsFront}
-use Rattle.zr_cmd.specs.Words.{Begins, IsNamed, IsUnknown, Reads, Spells, words_of}
-use Rattle.zr_cmd.specs.declared.argv.ArgvFault.TheVariants.{UnknownCommand, BadWord}
+use Rattle.zr_cmd.specs.Steps.{IsFront}
+use Rattle.zr_cmd.specs.Words.{Begins, IsUnknown, Reads, Spells, words_of}
+use Rattle.zr_cmd.specs.declared.argv.ArgvFault.TheVariants.{BadWord}
 use Rattle.zr_cmd.specs.declared.forms.Call.{Call}
 use Rattle.zr_cmd.specs.declared.forms.Form.{Form}
 use Rattle.zr_cmd.specs.declared.forms.Form.TheVariants as form

@@ -1,17 +1,15 @@
-use Rattle.std.proofs.Common.{◌≡◌, ℕ, zero, suc, ◌+◌, ◌<◌, ◌≤◌, Bool, true, false, List, [], ◌∷◌, ◌++◌, length, get_or, take, drop, map, refl, arith, ap, ◌∙◌, sym, subst, length-append}
-use Rattle.std.specs.Prelude.{codes}
-use Rattle.std.specs.Bool.{⊤}
-use Rattle.std.proofs.lemmas.List.{append-nil, drop_more, length-map}
+use Rattle.std.proofs.Common.{◌≡◌, ℕ, zero, suc, ◌+◌, true, false, List, [], ◌∷◌, ◌++◌, length, get_or, map, refl, arith, ap, ◌∙◌, sym, subst}
+use Rattle.std.proofs.lemmas.List.{length-map}
 use Rattle.zr_world.specs.declared.command.Cmd.TheVariants as cmd
 use Rattle.zr_world.specs.declared.version.VersionName.TheVariants as version
-use Rattle.zr_cmd.specs.Forms.{Fits, IsFull, IsJobTag, Pattern, fixed, a_path, patterns_of, name_part, read_as, set_part}
+use Rattle.zr_cmd.specs.Forms.{Fits, IsFull, Pattern, fixed, a_path, patterns_of, name_part, read_as, set_part}
 use Rattle.zr_cmd.specs.Words.{IsNamed, IsPath, Spells, sets_words, versions_words, words_of}
 use Rattle.zr_cmd.specs.declared.forms.Call.{Call}
 use Rattle.zr_cmd.specs.declared.forms.Call.TheVariants as call
 use Rattle.zr_cmd.specs.declared.forms.Form.{Form}
 use Rattle.zr_cmd.specs.declared.forms.Form.TheVariants as form
 use Rattle.zr_cmd.proofs.Cut.{full, job-tag, set-of}
-use Rattle.zr_cmd.proofs.Fronts.{Along, along-at, is_chain}
+use Rattle.zr_cmd.proofs.Fronts.{Along, is_chain}
 
 -- the form of a call
 abbrev pub form_of : Call → Form

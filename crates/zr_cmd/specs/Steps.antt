@@ -1,4 +1,4 @@
-use Rattle.std.specs.Prelude.{◌≡◌, ◌-◌, ◌<◌, ◌≤◌, ℕ, List, length, map, slice_index_or, String}
+use Rattle.std.specs.Prelude.{◌-◌, ◌<◌, ◌≤◌, ℕ, List, length, map, slice_index_or, String}
 use Rattle.std.specs.String.{string_bytes}
 use Rattle.zr_cmd.specs.Forms.{Fits, Pattern, a_path, word_at}
 

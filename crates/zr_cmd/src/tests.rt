@@ -40,19 +40,30 @@ fn child(rt: &impl Abort, alloc: Global, got: &Words, want: &str) {
     assert!(rt; *rest == *after.as_slice(), "{want}");
 }
 
+/// The call that these words are read as.
+fn call(rt: &impl Abort, alloc: Global, line: &str) -> Call {
+    let list = words(rt, alloc, line);
+    read_argv(alloc, list.as_slice()).expect(rt, "a call")
+}
+
 /// These words are read as this call.
 fn read(rt: &impl Abort, alloc: Global, line: &str, want: &Call) {
-    let list = words(rt, alloc, line);
-    let call = read_argv(alloc, list.as_slice()).expect(rt, "a call");
+    let call = call(rt, alloc, line);
     assert!(rt; call == *want, "{line}");
+}
+
+/// The words of the only child of a command.
+fn one_child(rt: &impl Abort, alloc: Global, cmd: &Cmd) -> Words {
+    match argv_of(alloc, "/sbin/zfs", cmd).expect(rt, "memory") {
+        Argv::One(words) => words,
+        Argv::Pipe(_, _) => panic!(rt; "one child"),
+    }
 }
 
 /// The command is called with these words, and they are read as it.
 fn written(rt: &impl Abort, alloc: Global, cmd: Cmd, want: &str) {
-    match argv_of(alloc, "/sbin/zfs", &cmd).expect(rt, "memory") {
-        Argv::One(got) => child(rt, alloc, &got, want),
-        Argv::Pipe(_, _) => panic!(rt; "one child"),
-    }
+    let got = one_child(rt, alloc, &cmd);
+    child(rt, alloc, &got, want);
     read(rt, alloc, want, &Call::One(cmd));
 }
 
@@ -118,15 +129,19 @@ fn words_of_bookmarks(rt: HostRuntime) {
     written(&rt, alloc, marked, "bookmark tank/home#m tank/home#n");
 }
 
-/// The transfer starts a sending end with these words and a receiving end with those.
-fn piped(rt: &impl Abort, alloc: Global, transfer: Transfer, send: &str, receive: &str) {
-    match argv_of(alloc, "/sbin/zfs", &Cmd::Transfer(transfer)).expect(rt, "memory") {
-        Argv::Pipe(one, other) => {
-            child(rt, alloc, &one, send);
-            child(rt, alloc, &other, receive);
-        }
+/// The words of both children of a command.
+fn two_children(rt: &impl Abort, alloc: Global, cmd: &Cmd) -> (Words, Words) {
+    match argv_of(alloc, "/sbin/zfs", cmd).expect(rt, "memory") {
+        Argv::Pipe(one, other) => (one, other),
         Argv::One(_) => panic!(rt; "two children"),
     }
+}
+
+/// The transfer starts a sending end with these words and a receiving end with those.
+fn piped(rt: &impl Abort, alloc: Global, transfer: Transfer, send: &str, receive: &str) {
+    let (one, other) = two_children(rt, alloc, &Cmd::Transfer(transfer));
+    child(rt, alloc, &one, send);
+    child(rt, alloc, &other, receive);
 }
 
 fn transfer(rt: &impl Abort, alloc: Global, base: Base, force: bool) -> Transfer {
@@ -159,140 +174,142 @@ fn words_of_a_transfer_from_a_bookmark(rt: HostRuntime) {
 }
 
 #[test]
-fn the_sending_end_is_read(rt: HostRuntime) {
+fn the_end_that_sends_the_whole_is_read(rt: HostRuntime) {
     let alloc = rt.alloc();
     let whole = Call::SendFull(home(&rt, alloc), snap(&rt, alloc, "s"));
     read(&rt, alloc, "send tank/home@s", &whole);
+}
+
+#[test]
+fn the_end_that_sends_an_increment_is_read(rt: HostRuntime) {
+    let alloc = rt.alloc();
     let (base, to) = (mark(&rt, alloc, "m"), snap(&rt, alloc, "s"));
     let since = Call::SendFrom(home(&rt, alloc), base, to);
     read(&rt, alloc, "send -i tank/home#m tank/home@s", &since);
 }
 
+/// These words are read as a receive.
+fn receives(rt: &impl Abort, alloc: Global, line: &str, target: &str, force: bool) {
+    let call = Call::Receive(path(rt, alloc, target), force);
+    read(rt, alloc, line, &call);
+}
+
 #[test]
 fn the_receiving_end_is_read(rt: HostRuntime) {
     let alloc = rt.alloc();
-    let kept = Call::Receive(home(&rt, alloc), false);
-    read(&rt, alloc, "receive -s -u tank/home", &kept);
-    let forced = Call::Receive(home(&rt, alloc), true);
-    read(&rt, alloc, "receive -s -u -F tank/home", &forced);
+    receives(&rt, alloc, "receive -s -u tank/home", "tank/home", false);
+    receives(&rt, alloc, "receive -s -u -F tank/home", "tank/home", true);
 }
 
 /// A path may be spelled as an option is: with one word left it is the path.
 #[test]
 fn a_path_spelled_as_an_option(rt: HostRuntime) {
     let alloc = rt.alloc();
-    let kept = Call::Receive(path(&rt, alloc, "-F"), false);
-    read(&rt, alloc, "receive -s -u -F", &kept);
-    let forced = Call::Receive(path(&rt, alloc, "-F"), true);
-    read(&rt, alloc, "receive -s -u -F -F", &forced);
+    receives(&rt, alloc, "receive -s -u -F", "-F", false);
+    receives(&rt, alloc, "receive -s -u -F -F", "-F", true);
+}
+
+/// Why these words are no call.
+fn fault_of(rt: &impl Abort, alloc: Global, line: &str) -> Option<ArgvFault> {
+    let list = words(rt, alloc, line);
+    read_argv(alloc, list.as_slice()).err()
 }
 
 /// The words are no call, for this fault.
 fn refused(rt: &impl Abort, alloc: Global, line: &str, fault: ArgvFault) {
-    let list = words(rt, alloc, line);
-    assert_eq!(rt; read_argv(alloc, list.as_slice()), Err(fault), "{line}");
+    assert_eq!(rt; fault_of(rt, alloc, line), Some(fault), "{line}");
 }
 
-/// The first word is that of no call.
-const UNKNOWN: [&str; 6] = ["", "get", "frob", "LIST -H", "lis", "-i tank#m tank@s"];
+/// Words of which the first is that of no call.
+const UNKNOWN: &str = "|get|frob|LIST -H|lis|-i tank#m tank@s";
 
 #[test]
 fn first_words_of_no_call(rt: HostRuntime) {
     let alloc = rt.alloc();
-    for line in UNKNOWN {
+    for line in UNKNOWN.split('|') {
         refused(&rt, alloc, line, ArgvFault::UnknownCommand);
     }
-    let none = Words::new(alloc);
-    assert_eq!(rt;
-        read_argv(alloc, none.as_slice()),
-        Err(ArgvFault::UnknownCommand)
-    );
+}
+
+#[test]
+fn no_words_are_no_call(rt: HostRuntime) {
+    let fault = read_argv(rt.alloc(), &[]).err();
+    assert_eq!(rt; fault, Some(ArgvFault::UnknownCommand));
 }
 
 /// Words that are nearly a call, and how many of them begin one.
-const BAD: [(&str, usize); 64] = [
-    ("list", 1),
-    ("list -h", 1),
-    ("list -H", 2),
-    ("list -H -p", 3),
-    ("list -H -p -r", 3),
-    ("list -H -p -t snapshot", 4),
-    ("list -H -p -d 2", 4),
-    ("list -H -p -d 1 -t snapshot", 6),
-    ("list -H -p -t filesystem,volume -o", 6),
-    ("list -H -p -t filesystem,volume -o name", 6),
-    ("holds", 1),
-    ("holds tank@s", 1),
-    ("holds -H", 2),
-    ("holds -H tank#m", 2),
-    ("holds -H tank@s tank@t", 3),
-    ("destroy", 1),
-    ("destroy ", 1),
-    ("destroy tank/a", 1),
-    ("destroy tank@", 1),
-    ("destroy @s", 1),
-    ("destroy tank@s@t", 1),
-    ("destroy tank#m@s", 1),
-    ("destroy tank@a tank@b", 2),
-    ("destroy tank#m x", 2),
-    ("hold", 1),
-    ("hold x tank@s", 1),
-    ("hold zrepl_STEP_J_ tank@s", 1),
-    ("hold zrepl_STEP_J_a/b tank@s", 1),
-    ("hold zrepl_CURSOR_J_a tank@s", 1),
-    ("hold zrepl_STEP_J_a", 2),
-    ("hold zrepl_STEP_J_a tank", 2),
-    ("hold zrepl_STEP_J_a tank@s x", 3),
-    ("release tank@s", 1),
-    ("release zrepl_last_received_J_a tank#m", 2),
-    ("bookmark", 1),
-    ("bookmark a", 1),
-    ("bookmark a@s", 2),
-    ("bookmark a@s b#m", 2),
-    ("bookmark a#m b#n", 2),
-    ("bookmark a@s a@t", 2),
-    ("bookmark a/b@s a#m", 2),
-    ("bookmark a@s a#m x", 3),
-    ("send", 1),
-    ("send a", 1),
-    ("send a#m", 1),
-    ("send a@s b@s", 2),
-    ("send -i", 2),
-    ("send -i a@r a@s", 2),
-    ("send -i a#m", 3),
-    ("send -i a#m b@s", 3),
-    ("send -i a#m a#n", 3),
-    ("send -i a#m a@s x", 4),
-    ("receive", 1),
-    ("receive -u -s a", 1),
-    ("receive -s -u", 3),
-    ("receive -s -u a@s", 3),
-    ("receive -s -u a b", 4),
-    ("receive -s -u -F a//b", 4),
-    ("receive -s -u -F a b", 5),
-    (
-        "list -H -p -t filesystem,volume -o name,zrepl:placeholder,receive_resume_token tank",
-        7,
-    ),
-    ("list -H -p -t filesystem,volume -o tank//home", 6),
-    (
-        "list -H -p -d 1 -t snapshot,bookmark -s createtxg -o name,guid,createtxg,creation,userrefs",
-        11,
-    ),
-    (
-        "list -H -p -d 1 -t snapshot,bookmark -s createtxg -o name,guid,createtxg,creation,userrefs tank//home",
-        11,
-    ),
-    (
-        "list -H -p -d 1 -t snapshot,bookmark -s createtxg -o name,guid,createtxg,creation,userrefs tank/home tank",
-        12,
-    ),
-];
+const BAD: &str = "\
+list|1
+list -h|1
+list -H|2
+list -H -p|3
+list -H -p -r|3
+list -H -p -t snapshot|4
+list -H -p -d 2|4
+list -H -p -d 1 -t snapshot|6
+list -H -p -t filesystem,volume -o|6
+list -H -p -t filesystem,volume -o name|6
+holds|1
+holds tank@s|1
+holds -H|2
+holds -H tank#m|2
+holds -H tank@s tank@t|3
+destroy|1
+destroy |1
+destroy tank/a|1
+destroy tank@|1
+destroy @s|1
+destroy tank@s@t|1
+destroy tank#m@s|1
+destroy tank@a tank@b|2
+destroy tank#m x|2
+hold|1
+hold x tank@s|1
+hold zrepl_STEP_J_ tank@s|1
+hold zrepl_STEP_J_a/b tank@s|1
+hold zrepl_CURSOR_J_a tank@s|1
+hold zrepl_STEP_J_a|2
+hold zrepl_STEP_J_a tank|2
+hold zrepl_STEP_J_a tank@s x|3
+release tank@s|1
+release zrepl_last_received_J_a tank#m|2
+bookmark|1
+bookmark a|1
+bookmark a@s|2
+bookmark a@s b#m|2
+bookmark a#m b#n|2
+bookmark a@s a@t|2
+bookmark a/b@s a#m|2
+bookmark a@s a#m x|3
+send|1
+send a|1
+send a#m|1
+send a@s b@s|2
+send -i|2
+send -i a@r a@s|2
+send -i a#m|3
+send -i a#m b@s|3
+send -i a#m a#n|3
+send -i a#m a@s x|4
+receive|1
+receive -u -s a|1
+receive -s -u|3
+receive -s -u a@s|3
+receive -s -u a b|4
+receive -s -u -F a//b|4
+receive -s -u -F a b|5
+list -H -p -t filesystem,volume -o name,zrepl:placeholder,receive_resume_token tank|7
+list -H -p -t filesystem,volume -o tank//home|6
+list -H -p -d 1 -t snapshot,bookmark -s createtxg -o name,guid,createtxg,creation,userrefs|11
+list -H -p -d 1 -t snapshot,bookmark -s createtxg -o name,guid,createtxg,creation,userrefs tank//home|11
+list -H -p -d 1 -t snapshot,bookmark -s createtxg -o name,guid,createtxg,creation,userrefs tank/home tank|12";
 
 #[test]
 fn words_that_are_nearly_a_call(rt: HostRuntime) {
     let alloc = rt.alloc();
-    for (line, count) in BAD {
+    for row in BAD.lines() {
+        let (line, count) = row.split_once('|').expect(&rt, "a row");
+        let count = count.parse::<usize>().expect(&rt, "a count");
         refused(&rt, alloc, line, ArgvFault::BadWord(count));
     }
 }

@@ -1,287 +1,182 @@
+//! Transfers, which are pipes of two children.
+
+use super::fixture::{BACK, answers, answers_all, argv, children, ended, runner, word};
+use super::running::{only_line, same_words};
 use super::*;
+use std::alloc::AllocGlobal;
+use std::process::Abort;
+use std::test::Fail;
+use zr_world::{Extent, Planned};
 
-/// `back` without versions, and `tank` with the snapshots `a`, of guid 11, and `b`, of guid 12. The next transaction
-/// group is 50.
-fn pools<R: Abort + AllocGlobal>(rt: &R) -> Result<Pools, Fail> {
-    let alloc = rt.alloc();
-    let mut versions = Vec::new(alloc);
-    for (name, number) in [(b"a", 11), (b"b", 12)] {
-        let name = VersionName::Snap(snap(rt, alloc, name));
-        versions.push(version(alloc, name, number, Vec::new(alloc)))?;
-    }
-    let sets = vec![in alloc;
-        dataset(path(rt, alloc, b"back"), false, Vec::new(alloc)),
-        dataset(path(rt, alloc, b"tank"), false, versions),
-    ]?;
-    Ok(pools_of(sets))
+fn play<R: Abort + AllocGlobal>(rt: &R, rows: &str) -> Result<(), Fail> {
+    let mut zfs = runner(rt, BACK, &[])?;
+    answers_all(rt, &mut zfs, rows)
 }
 
-/// A version by its name, its guid, its transaction group and the number of its holds.
-type Row = (&'static [u8], u64, u64, u64);
-
-/// The listing of a dataset's versions shows these.
-fn lists<R: Abort + AllocGlobal>(rt: &R, zfs: &mut CliZfs<MemSpawn>, set: &[u8], want: &[Row]) {
-    let alloc = rt.alloc();
-    match zfs.run(&Cmd::Versions(path(rt, alloc, set))) {
-        Answer::Done(Reply::Versions(rows)) => {
-            assert_eq!(rt; rows.len(), want.len());
-            for (row, (name, guid, txg, refs)) in rows.as_slice().iter().zip(want.iter()) {
-                let text = match &row.name {
-                    VersionName::Snap(name) => name.as_bytes(),
-                    VersionName::Mark(name) => name.as_bytes(),
-                };
-                assert_eq!(rt; text, *name);
-                assert_eq!(rt; (row.guid.0, row.txg, row.refs), (*guid, *txg, *refs));
-            }
-        }
-        answer => panic!(rt; "{answer:?}"),
-    }
-}
-
-/// The listing of the holds of `back/tank@a` shows these tags.
-fn holds<R: Abort + AllocGlobal>(rt: &R, zfs: &mut CliZfs<MemSpawn>, want: &[&[u8]]) {
-    let alloc = rt.alloc();
-    let cmd = Cmd::Holds(path(rt, alloc, b"back/tank"), snap(rt, alloc, b"a"));
-    match zfs.run(&cmd) {
-        Answer::Done(Reply::Holds(tags)) => {
-            assert_eq!(rt; tags.len(), want.len());
-            for (tag, text) in tags.as_slice().iter().zip(want.iter()) {
-                assert_eq!(rt; tag.as_bytes(), *text);
-            }
-        }
-        answer => panic!(rt; "{answer:?}"),
-    }
-}
-
-fn is_done<R: Abort>(rt: &R, zfs: &mut CliZfs<MemSpawn>, cmd: &Cmd) {
-    assert_eq!(rt; kind_of(&zfs.run(cmd)), Kind::Nothing);
-}
-
-/// The hold of the job on `back/tank@a`, put or taken off.
-fn last_received<R: Abort + AllocGlobal>(rt: &R, put: bool) -> Cmd {
-    let alloc = rt.alloc();
-    let back = path(rt, alloc, b"back/tank");
-    let a = snap(rt, alloc, b"a");
-    if put {
-        Cmd::Hold(TagKind::Last, job(rt, alloc), back, a)
-    } else {
-        Cmd::Release(TagKind::Last, job(rt, alloc), back, a)
-    }
-}
-
-/// The cursor of the job at `tank@a`, made or destroyed.
-fn cursor<R: Abort + AllocGlobal>(rt: &R, made: bool) -> Cmd {
-    let alloc = rt.alloc();
-    let tank = path(rt, alloc, b"tank");
-    if made {
-        let a = VersionName::Snap(snap(rt, alloc, b"a"));
-        Cmd::Bookmark(tank, a, mark(rt, alloc))
-    } else {
-        Cmd::DestroyMark(tank, mark(rt, alloc))
-    }
-}
+const CURSOR: &str = "\
+send tank a 11 full back/tank|done
+versions back/tank|@a:11:50:100:0;
+bookmark tank @a zrepl_CURSOR_G_000000000000000b_J_j|done
+versions tank|@a:11:11:100:0;#zrepl_CURSOR_G_000000000000000b_J_j:11:11:100:0;@b:12:12:100:0;
+destroy tank #zrepl_CURSOR_G_000000000000000b_J_j|done
+versions tank|@a:11:11:100:0;@b:12:12:100:0;";
 
 #[test]
 fn a_whole_transfer_leaves_a_cursor(rt: HostRuntime) -> Result<(), Fail> {
-    let mut zfs = runner(&rt, pools(&rt)?, &[])?;
-    is_done(&rt, &mut zfs, &transfer(&rt, b"a", 11, Base::Full));
-    lists(&rt, &mut zfs, b"back/tank", &[(b"a", 11, 50, 0)]);
-    is_done(&rt, &mut zfs, &cursor(&rt, true));
-    let rows: [Row; 3] = [
-        (b"a", 11, 11, 0),
-        (b"zrepl_CURSOR_G_000000000000000b_J_j", 11, 11, 0),
-        (b"b", 12, 12, 0),
-    ];
-    lists(&rt, &mut zfs, b"tank", &rows);
-    is_done(&rt, &mut zfs, &cursor(&rt, false));
-    lists(
-        &rt,
-        &mut zfs,
-        b"tank",
-        &[(b"a", 11, 11, 0), (b"b", 12, 12, 0)],
-    );
-    Ok(())
+    play(&rt, CURSOR)
 }
+
+const HELD: &str = "\
+send tank a 11 full back/tank|done
+hold back/tank a last j|done
+holds back/tank a|[zrepl_last_received_J_j]
+hold back/tank a last j|failed
+release back/tank a last j|done
+holds back/tank a|";
 
 #[test]
 fn a_received_snapshot_is_held_and_released(rt: HostRuntime) -> Result<(), Fail> {
-    let mut zfs = runner(&rt, pools(&rt)?, &[])?;
-    is_done(&rt, &mut zfs, &transfer(&rt, b"a", 11, Base::Full));
-    is_done(&rt, &mut zfs, &last_received(&rt, true));
-    holds(&rt, &mut zfs, &[b"zrepl_last_received_J_j"]);
-    let again = zfs.run(&last_received(&rt, true));
-    assert_eq!(rt; kind_of(&again), Kind::Failed);
-    is_done(&rt, &mut zfs, &last_received(&rt, false));
-    holds(&rt, &mut zfs, &[]);
-    Ok(())
+    play(&rt, HELD)
 }
+
+const INCREMENT: &str = "\
+send tank a 11 full back/tank|done
+bookmark tank @a zrepl_CURSOR_G_000000000000000b_J_j|done
+hold back/tank a last j|done
+send tank b 12 zrepl_CURSOR_G_000000000000000b_J_j 11 back/tank|done
+versions back/tank|@a:11:50:100:1;@b:12:51:100:0;";
 
 #[test]
 fn an_increment_goes_from_the_cursor(rt: HostRuntime) -> Result<(), Fail> {
-    let mut zfs = runner(&rt, pools(&rt)?, &[])?;
-    is_done(&rt, &mut zfs, &transfer(&rt, b"a", 11, Base::Full));
-    is_done(&rt, &mut zfs, &cursor(&rt, true));
-    is_done(&rt, &mut zfs, &last_received(&rt, true));
-    let base = Base::From(mark(&rt, rt.alloc()), Guid(11));
-    is_done(&rt, &mut zfs, &transfer(&rt, b"b", 12, base));
-    lists(
-        &rt,
-        &mut zfs,
-        b"back/tank",
-        &[(b"a", 11, 50, 1), (b"b", 12, 51, 0)],
-    );
-    Ok(())
+    play(&rt, INCREMENT)
 }
 
-/// What a dataset's row shows: its path and its resume token.
-type Shown = (&'static [u8], Option<&'static [u8]>);
-
-const BEFORE: [Shown; 2] = [(b"back", None), (b"tank", None)];
-
-/// The partial receive of the whole snapshot of guid 11 from `tank`.
-const PARTIAL: [Shown; 3] = [
-    (b"back", None),
-    (b"back/tank", Some(b"1-000000000000000b-none-tank")),
-    (b"tank", None),
-];
-
-const CAME: [Shown; 3] = [(b"back", None), (b"back/tank", None), (b"tank", None)];
-
-/// The listing of the datasets shows these.
-fn shows<R: Abort>(rt: &R, zfs: &mut CliZfs<MemSpawn>, want: &[Shown]) {
-    match zfs.run(&Cmd::Sets) {
-        Answer::Done(Reply::Sets(rows)) => {
-            assert_eq!(rt; rows.len(), want.len());
-            for (row, (path, token)) in rows.as_slice().iter().zip(want.iter()) {
-                assert_eq!(rt; row.path.as_bytes(), *path);
-                match (&row.token, token) {
-                    (None, None) => {}
-                    (Some(shown), Some(token)) => assert_eq!(rt; shown.as_bytes(), *token),
-                    _ => panic!(rt; "{row:?}"),
-                }
-            }
-        }
-        answer => panic!(rt; "{answer:?}"),
-    }
+/// A transfer that fails with this extent leaves these datasets.
+fn failed_transfer<R: Abort + AllocGlobal>(rt: &R, extent: Extent, sets: &str) -> Result<(), Fail> {
+    let mut zfs = runner(rt, BACK, &[Planned { call: 1, extent }])?;
+    answers(rt, &mut zfs, "send tank a 11 full back/tank", "failed")?;
+    answers(rt, &mut zfs, "sets", sets)
 }
 
 #[test]
 fn a_failed_transfer_may_have_come_at_any_extent(rt: HostRuntime) -> Result<(), Fail> {
-    let cases: [(Extent, &[Shown]); 3] = [
-        (Extent::None, &BEFORE),
-        (Extent::Part, &PARTIAL),
-        (Extent::Whole, &CAME),
-    ];
-    for (extent, shown) in cases {
-        let mut zfs = runner(&rt, pools(&rt)?, &[Planned { call: 1, extent }])?;
-        let answer = zfs.run(&transfer(&rt, b"a", 11, Base::Full));
-        assert_eq!(rt; kind_of(&answer), Kind::Failed);
-        shows(&rt, &mut zfs, shown);
-    }
-    Ok(())
+    failed_transfer(&rt, Extent::None, "back -;tank -;")?;
+    let partial = "back -;back/tank - 1-000000000000000b-none-tank;tank -;";
+    failed_transfer(&rt, Extent::Part, partial)?;
+    failed_transfer(&rt, Extent::Whole, "back -;back/tank -;tank -;")
 }
+
+const OTHER_GUID: &str = "\
+send tank a 99 full back/tank|done
+versions back/tank|@a:11:50:100:0;";
 
 #[test]
 fn a_transfer_takes_the_guid_that_stands_on_its_source(rt: HostRuntime) -> Result<(), Fail> {
-    let mut zfs = runner(&rt, pools(&rt)?, &[])?;
-    is_done(&rt, &mut zfs, &transfer(&rt, b"a", 99, Base::Full));
-    lists(&rt, &mut zfs, b"back/tank", &[(b"a", 11, 50, 0)]);
-    Ok(())
+    play(&rt, OTHER_GUID)
 }
 
-fn words<R: Abort + AllocGlobal>(rt: &R, words: &[&str]) -> Result<Vec<String>, Fail> {
-    let alloc = rt.alloc();
-    let mut argv = Vec::new(alloc);
-    for word in words {
-        argv.push(String::from_str(alloc, word)?)?;
+/// The words behind the program's name.
+fn behind(text: &str) -> &str {
+    match text.split_once(' ') {
+        Some((_, rest)) => rest,
+        None => "",
     }
-    Ok(argv)
 }
-
-const SEND: &[&str] = &["zfs", "send", "tank@a"];
-
-const RECEIVE: &[&str] = &["zfs", "receive", "-s", "-u", "back/tank"];
 
 /// The words of both ends of a pipe, how it ends, and how many datasets there are then.
-const PIPES: [(&[&str], &[&str], PipeExit, usize); 9] = [
-    (SEND, RECEIVE, PipeExit::Done, 3),
-    (
-        SEND,
-        &["zfs", "receive", "-s", "-u", "-F", "back/tank"],
-        PipeExit::Done,
-        3,
-    ),
-    (SEND, &["zfs", "receive", "back/tank"], PipeExit::Failed, 2),
-    (&["zfs", "send", "tank@c"], RECEIVE, PipeExit::Failed, 2),
-    (&["zfs", "send", "none@a"], RECEIVE, PipeExit::Failed, 2),
-    (
-        &["zfs", "send", "-i", "tank#m", "tank@a"],
-        RECEIVE,
-        PipeExit::Failed,
-        2,
-    ),
-    (RECEIVE, SEND, PipeExit::Failed, 2),
-    (&["zfs", "list"], RECEIVE, PipeExit::Failed, 2),
-    (&[], &[], PipeExit::Failed, 2),
-];
+const PIPES: &str = "\
+zfs send tank@a|zfs receive -s -u back/tank|done|3
+zfs send tank@a|zfs receive -s -u -F back/tank|done|3
+zfs send tank@a|zfs receive back/tank|failed|2
+zfs send tank@c|zfs receive -s -u back/tank|failed|2
+zfs send none@a|zfs receive -s -u back/tank|failed|2
+zfs send -i tank#m tank@a|zfs receive -s -u back/tank|failed|2
+zfs receive -s -u back/tank|zfs send tank@a|failed|2
+zfs list|zfs receive -s -u back/tank|failed|2
+||failed|2";
+
+fn exit_of(text: &str) -> PipeExit {
+    if text == "done" {
+        PipeExit::Done
+    } else {
+        PipeExit::Failed
+    }
+}
 
 /// The only line of the record is a pipe with these words behind the programs' names and this exit.
-fn piped<R: Abort>(rt: &R, spawn: &MemSpawn, send: &[&str], receive: &[&str], exit: PipeExit) {
-    let told = spawn.told();
-    assert_eq!(rt; told.len(), 1);
-    match &told[0] {
+fn piped<R: Abort>(rt: &R, spawn: &MemSpawn, (send, receive): (&str, &str), exit: PipeExit) {
+    match only_line(rt, spawn) {
         Line::Begin(_, _) | Line::Call(_) => panic!(rt; "no pipe"),
         Line::Pipe(pipe) => {
-            for (shown, want) in [(&pipe.send, send), (&pipe.receive, receive)] {
-                assert_eq!(rt; shown.len(), want.len().saturating_sub(1));
-                for (word, text) in shown.as_slice().iter().zip(want.iter().skip(1)) {
-                    assert_eq!(rt; word.as_slice(), text.as_bytes());
-                }
-            }
+            assert!(rt; same_words(pipe.send.as_slice(), behind(send)), "{send}");
+            assert!(rt;
+                same_words(pipe.receive.as_slice(), behind(receive)),
+                "{receive}"
+            );
             assert_eq!(rt; pipe.exit, exit);
         }
     }
 }
 
-#[test]
-fn pipes_by_their_words(rt: HostRuntime) -> Result<(), Fail> {
-    let alloc = rt.alloc();
-    for (send, receive, exit, sets) in PIPES {
-        let pools = pools(&rt)?;
-        assert!(rt; is_well_formed(&pools));
-        let mut spawn = MemSpawn::new(alloc, pools, Vec::new(alloc));
-        let (from, to) = (words(&rt, send)?, words(&rt, receive)?);
-        assert_eq!(rt;
-            spawn.pipe(from.as_slice(), to.as_slice()),
-            exit,
-            "{send:?} {receive:?}"
-        );
-        assert_eq!(rt; spawn.pools().sets.len(), sets, "{send:?} {receive:?}");
-        piped(&rt, &spawn, send, receive, exit);
-    }
+/// How the pipe ends.
+fn end<R: AllocGlobal>(
+    rt: &R,
+    spawn: &mut MemSpawn,
+    (send, receive): (&str, &str),
+) -> Result<PipeExit, Fail> {
+    let from = argv(rt, send)?;
+    let to = argv(rt, receive)?;
+    Ok(spawn.pipe(from.as_slice(), to.as_slice()))
+}
+
+/// The pipe ends so and leaves so many datasets.
+fn pipe<R: Abort + AllocGlobal>(
+    rt: &R,
+    ends: (&str, &str),
+    exit: PipeExit,
+    sets: usize,
+) -> Result<(), Fail> {
+    let mut spawn = children(rt, BACK, &[])?;
+    let ended = end(rt, &mut spawn, ends)?;
+    assert_eq!(rt; ended, exit, "{ends:?}");
+    assert_eq!(rt; spawn.pools().sets.len(), sets, "{ends:?}");
+    piped(rt, &spawn, ends, exit);
     Ok(())
 }
 
 #[test]
+fn pipes_by_their_words(rt: HostRuntime) -> Result<(), Fail> {
+    for row in PIPES.lines() {
+        let mut words = row.split('|');
+        let ends = (word(&mut words), word(&mut words));
+        let exit = exit_of(word(&mut words));
+        pipe(&rt, ends, exit, word(&mut words).parse::<usize>()?)?;
+    }
+    Ok(())
+}
+
+const ENDS: &str = "\
+zfs send tank@a
+zfs receive -s -u back/tank
+zfs send -i tank#m tank@a";
+
+#[test]
 fn one_end_alone_does_nothing(rt: HostRuntime) -> Result<(), Fail> {
-    let alloc = rt.alloc();
-    let pools = pools(&rt)?;
-    assert!(rt; is_well_formed(&pools));
-    let mut spawn = MemSpawn::new(alloc, pools, Vec::new(alloc));
-    let mut out = Vec::new(alloc);
-    let increment = ["zfs", "send", "-i", "tank#m", "tank@a"];
-    for end in [SEND, RECEIVE, &increment] {
-        let argv = words(&rt, end)?;
-        assert_eq!(rt;
-            spawn.run(argv.as_slice(), &mut out),
-            RunExit::Nonzero,
-            "{end:?}"
-        );
+    let mut spawn = children(&rt, BACK, &[])?;
+    let mut out = Vec::new(rt.alloc());
+    for end in ENDS.lines() {
+        let exit = ended(&rt, &mut spawn, end, &mut out)?;
+        assert_eq!(rt; exit, RunExit::Nonzero, "{end}");
     }
     assert_eq!(rt; spawn.pools().sets.len(), 2);
     assert_eq!(rt; spawn.told().len(), 3);
     Ok(())
 }
+
+const COUNTED: &str = "\
+send tank a 11 full back/tank|done
+sets|failed
+sets|back -;back/tank -;tank -;";
 
 #[test]
 fn a_pipe_counts_as_one_call(rt: HostRuntime) -> Result<(), Fail> {
@@ -289,9 +184,6 @@ fn a_pipe_counts_as_one_call(rt: HostRuntime) -> Result<(), Fail> {
         call: 2,
         extent: Extent::None,
     };
-    let mut zfs = runner(&rt, pools(&rt)?, &[second])?;
-    is_done(&rt, &mut zfs, &transfer(&rt, b"a", 11, Base::Full));
-    assert_eq!(rt; kind_of(&zfs.run(&Cmd::Sets)), Kind::Failed);
-    shows(&rt, &mut zfs, &CAME);
-    Ok(())
+    let mut zfs = runner(&rt, BACK, &[second])?;
+    answers_all(&rt, &mut zfs, COUNTED)
 }

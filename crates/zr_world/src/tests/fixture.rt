@@ -1,62 +1,27 @@
-//! Pools and commands from tables of texts.
+//! Pools and commands by their words.
 
 use super::print::pools_text;
 use crate::pools::{Dataset, Partial, Pools, Version};
-use crate::{ApplyFault, Base, Cmd, Extent, Refusal, Transfer, VersionName, apply};
-use std::alloc::{AllocGlobal, Global};
+use crate::{ApplyFault, Base, Cmd, Extent, Transfer, VersionName, apply};
+use std::alloc::Global;
+use std::str::Split;
 use std::test::Fail;
 use zr_names::{
-    Guid, JobName, MarkName, Path, Rows, SnapName, TagKind, read_job, read_mark, read_path,
+    Guid, JobName, MarkName, Path, Rows, SnapName, Tag, TagKind, read_job, read_mark, read_path,
     read_snap, read_tag,
 };
 
-/// A version: `@` and a snapshot's name or `#` and a bookmark's; its guid, its transaction group and the tags of its
-/// holds. It was made at the second 1000 and its guid.
-pub type Stands = (&'static str, u64, u64, &'static [&'static str]);
-
-/// A dataset: its path, whether it is a placeholder, the guids to which and from which its partial receive from `tank`
-/// is, and its versions.
-pub type Set = (
-    &'static str,
-    bool,
-    Option<(u64, Option<u64>)>,
-    &'static [Stands],
-);
-
-pub const TANK: Set = (
-    "tank",
-    false,
-    None,
-    &[
-        ("@a", 11, 1, &[]),
-        ("#a", 11, 1, &[]),
-        (
-            "@b",
-            12,
-            2,
-            &["zrepl_STEP_J_push", "x", "zrepl_last_received_J_push"],
-        ),
-        ("#b", 12, 2, &[]),
-        ("@c", 13, 3, &["zrepl_STEP_J_push"]),
-    ],
-);
-
-pub const TANK_TEXT: &str =
+/// A dataset as it is printed.
+pub const TANK: &str =
     "tank @a:11:1:1011 #a:11:1:1011 @b:12:2:1012[zrepl_STEP_J_push,x,zrepl_last_received_J_push] #b:12:2:1012 @c:13:3:1013[zrepl_STEP_J_push]";
 
-/// A command, with its names as texts.
-#[derive(Clone, Copy, Debug)]
-pub enum Ask {
-    Sets,
-    Versions(&'static str),
-    Holds(&'static str, &'static str),
-    Hold(TagKind, &'static str, &'static str, &'static str),
-    Release(TagKind, &'static str, &'static str, &'static str),
-    Bookmark(&'static str, &'static str, &'static str),
-    DestroySnap(&'static str, &'static str),
-    DestroyMark(&'static str, &'static str),
-    /// The snapshot, the mark that it starts from with its guid, the target, and whether it is forced.
-    Send((&'static str, &'static str, u64), Option<(&'static str, u64)>, &'static str, bool),
+/// The next word, which is empty where none is left.
+pub fn word<'a>(words: &mut Split<'a, char>) -> &'a str {
+    words.next().unwrap_or("")
+}
+
+fn number(text: &str) -> Result<u64, Fail> {
+    Ok(text.parse::<u64>()?)
 }
 
 pub fn path(alloc: Global, text: &str) -> Result<Path, Fail> {
@@ -75,6 +40,7 @@ fn job(alloc: Global, text: &str) -> Result<JobName, Fail> {
     Ok(read_job(alloc, text.as_bytes())?)
 }
 
+/// `@` and a snapshot's name or `#` and a bookmark's.
 fn name(alloc: Global, text: &str) -> Result<VersionName, Fail> {
     if let Some(text) = text.strip_prefix('@') {
         return Ok(VersionName::Snap(snap(alloc, text)?));
@@ -85,53 +51,76 @@ fn name(alloc: Global, text: &str) -> Result<VersionName, Fail> {
     }
 }
 
-fn version(alloc: Global, stands: &Stands) -> Result<Version, Fail> {
-    let (text, guid, txg, texts) = *stands;
+/// Tags with a comma between them and a bracket after the last.
+fn tags(alloc: Global, text: &str) -> Result<Rows<Tag>, Fail> {
     let mut tags = Rows::new(alloc);
-    for text in texts {
-        tags.push(read_tag(alloc, text.as_bytes())?)?;
+    for tag in text.trim_end_matches(']').split(',') {
+        if !tag.is_empty() {
+            tags.push(read_tag(alloc, tag.as_bytes())?)?;
+        }
     }
+    Ok(tags)
+}
+
+fn version(alloc: Global, text: &str) -> Result<Version, Fail> {
+    let (stands, held) = text.split_once('[').unwrap_or((text, ""));
+    let mut words = stands.split(':');
     Ok(Version {
-        name: name(alloc, text)?,
-        guid: Guid(guid),
-        txg,
-        creation: guid.wrapping_add(1000),
-        tags,
+        name: name(alloc, word(&mut words))?,
+        guid: Guid(number(word(&mut words))?),
+        txg: number(word(&mut words))?,
+        creation: number(word(&mut words))?,
+        tags: tags(alloc, held)?,
     })
 }
 
-fn partial(alloc: Global, guids: Option<(u64, Option<u64>)>) -> Result<Option<Partial>, Fail> {
-    let Some((to, from)) = guids else {
+fn versions(alloc: Global, text: &str) -> Result<Rows<Version>, Fail> {
+    let mut versions = Rows::new(alloc);
+    for word in text.split(' ') {
+        if word.starts_with('@') || word.starts_with('#') {
+            versions.push(version(alloc, word)?)?;
+        }
+    }
+    Ok(versions)
+}
+
+fn from(text: &str) -> Result<Option<Guid>, Fail> {
+    if text == "none" {
+        return Ok(None);
+    }
+    Ok(Some(Guid(number(text)?)))
+}
+
+fn partial(alloc: Global, text: &str) -> Result<Option<Partial>, Fail> {
+    let Some((_, text)) = text.split_once(" partial ") else {
         return Ok(None);
     };
+    let mut words = text.split(' ');
     Ok(Some(Partial {
-        to: Guid(to),
-        from: from.map(|guid| Guid(guid)),
-        source: path(alloc, "tank")?,
+        to: Guid(number(word(&mut words))?),
+        from: from(word(&mut words))?,
+        source: path(alloc, word(&mut words))?,
     }))
 }
 
-fn dataset(alloc: Global, set: &Set) -> Result<Dataset, Fail> {
-    let (text, placeholder, guids, stands) = *set;
-    let mut versions = Rows::new(alloc);
-    for stands in stands {
-        versions.push(version(alloc, stands)?)?;
-    }
+fn dataset(alloc: Global, text: &str) -> Result<Dataset, Fail> {
     Ok(Dataset {
-        path: path(alloc, text)?,
-        placeholder,
-        partial: partial(alloc, guids)?,
-        versions,
+        path: path(alloc, word(&mut text.split(' ')))?,
+        placeholder: text.contains(" placeholder"),
+        partial: partial(alloc, text)?,
+        versions: versions(alloc, text)?,
     })
 }
 
-/// These datasets and then `tank`, at this transaction group.
-pub fn pools(alloc: Global, others: &[Set], next_txg: u64) -> Result<Pools, Fail> {
+/// Datasets by their texts with `;` between them, and then `tank`, at this transaction group.
+pub fn pools(alloc: Global, others: &str, next_txg: u64) -> Result<Pools, Fail> {
     let mut sets = Rows::new(alloc);
-    for set in others {
-        sets.push(dataset(alloc, set)?)?;
+    for text in others.split(';') {
+        if !text.is_empty() {
+            sets.push(dataset(alloc, text)?)?;
+        }
     }
-    sets.push(dataset(alloc, &TANK)?)?;
+    sets.push(dataset(alloc, TANK)?)?;
     Ok(Pools {
         sets,
         now: 9000,
@@ -140,72 +129,100 @@ pub fn pools(alloc: Global, others: &[Set], next_txg: u64) -> Result<Pools, Fail
     })
 }
 
-fn send(
-    alloc: Global,
-    (source, to, guid): (&str, &str, u64),
-    from: Option<(&str, u64)>,
-    target: &str,
-    force: bool,
-) -> Result<Cmd, Fail> {
-    let base = match from {
-        Some((text, guid)) => Base::From(mark(alloc, text)?, Guid(guid)),
-        None => Base::Full,
-    };
+/// `full`, or the bookmark and the guid from which a transfer starts.
+fn base(alloc: Global, words: &mut Split<'_, char>) -> Result<Base, Fail> {
+    let text = word(words);
+    if text == "full" {
+        return Ok(Base::Full);
+    }
+    Ok(Base::From(mark(alloc, text)?, Guid(number(word(words))?)))
+}
+
+/// The snapshot and its guid, the base, the target and whether it is forced.
+fn send(alloc: Global, source: Path, words: &mut Split<'_, char>) -> Result<Cmd, Fail> {
     Ok(Cmd::Transfer(Transfer {
-        source: path(alloc, source)?,
-        to: snap(alloc, to)?,
-        guid: Guid(guid),
-        base,
-        target: path(alloc, target)?,
-        force,
+        source,
+        to: snap(alloc, word(words))?,
+        guid: Guid(number(word(words))?),
+        base: base(alloc, words)?,
+        target: path(alloc, word(words))?,
+        force: word(words) == "force",
     }))
 }
 
-fn tagging(
-    alloc: Global,
-    set: &str,
-    text: &str,
-    by: &str,
-) -> Result<(JobName, Path, SnapName), Fail> {
-    Ok((job(alloc, by)?, path(alloc, set)?, snap(alloc, text)?))
-}
-
-pub fn command(alloc: Global, ask: Ask) -> Result<Cmd, Fail> {
-    match ask {
-        Ask::Sets => Ok(Cmd::Sets),
-        Ask::Versions(set) => Ok(Cmd::Versions(path(alloc, set)?)),
-        Ask::Holds(set, text) => Ok(Cmd::Holds(path(alloc, set)?, snap(alloc, text)?)),
-        Ask::Hold(kind, by, set, text) => {
-            let (job, path, snap) = tagging(alloc, set, text, by)?;
-            Ok(Cmd::Hold(kind, job, path, snap))
-        }
-        Ask::Release(kind, by, set, text) => {
-            let (job, path, snap) = tagging(alloc, set, text, by)?;
-            Ok(Cmd::Release(kind, job, path, snap))
-        }
-        Ask::Bookmark(set, of, text) => {
-            let path = path(alloc, set)?;
-            Ok(Cmd::Bookmark(path, name(alloc, of)?, mark(alloc, text)?))
-        }
-        Ask::DestroySnap(set, text) => Ok(Cmd::DestroySnap(path(alloc, set)?, snap(alloc, text)?)),
-        Ask::DestroyMark(set, text) => Ok(Cmd::DestroyMark(path(alloc, set)?, mark(alloc, text)?)),
-        Ask::Send(snapshot, from, target, force) => send(alloc, snapshot, from, target, force),
+fn kind(text: &str) -> Result<TagKind, Fail> {
+    match text {
+        "step" => Ok(TagKind::Step),
+        "last" => Ok(TagKind::Last),
+        _ => Err(Fail::from("a kind of hold")),
     }
 }
 
-/// Applies a command to pools: why it is refused, and the pools after it as text.
-pub fn applied<R: AllocGlobal>(
-    rt: &R,
-    (others, next_txg): (&[Set], u64),
-    ask: Ask,
+/// The snapshot, the kind of the hold and its job.
+fn tagging(
+    alloc: Global,
+    words: &mut Split<'_, char>,
+) -> Result<(SnapName, TagKind, JobName), Fail> {
+    let snap = snap(alloc, word(words))?;
+    let kind = kind(word(words))?;
+    Ok((snap, kind, job(alloc, word(words))?))
+}
+
+fn hold(alloc: Global, set: Path, words: &mut Split<'_, char>) -> Result<Cmd, Fail> {
+    let (snap, kind, job) = tagging(alloc, words)?;
+    Ok(Cmd::Hold(kind, job, set, snap))
+}
+
+fn release(alloc: Global, set: Path, words: &mut Split<'_, char>) -> Result<Cmd, Fail> {
+    let (snap, kind, job) = tagging(alloc, words)?;
+    Ok(Cmd::Release(kind, job, set, snap))
+}
+
+fn bookmark(alloc: Global, set: Path, words: &mut Split<'_, char>) -> Result<Cmd, Fail> {
+    let of = name(alloc, word(words))?;
+    Ok(Cmd::Bookmark(set, of, mark(alloc, word(words))?))
+}
+
+fn destroy(alloc: Global, set: Path, text: &str) -> Result<Cmd, Fail> {
+    match name(alloc, text)? {
+        VersionName::Snap(name) => Ok(Cmd::DestroySnap(set, name)),
+        VersionName::Mark(name) => Ok(Cmd::DestroyMark(set, name)),
+    }
+}
+
+/// A command by its words: what it does, the dataset to which it does it, and the rest.
+pub fn command(alloc: Global, line: &str) -> Result<Cmd, Fail> {
+    let mut words = line.split(' ');
+    let verb = word(&mut words);
+    if verb == "sets" {
+        return Ok(Cmd::Sets);
+    }
+    let set = path(alloc, word(&mut words))?;
+    match verb {
+        "versions" => Ok(Cmd::Versions(set)),
+        "holds" => Ok(Cmd::Holds(set, snap(alloc, word(&mut words))?)),
+        "hold" => hold(alloc, set, &mut words),
+        "release" => release(alloc, set, &mut words),
+        "bookmark" => bookmark(alloc, set, &mut words),
+        "destroy" => destroy(alloc, set, word(&mut words)),
+        "send" => send(alloc, set, &mut words),
+        _ => Err(Fail::from("a command")),
+    }
+}
+
+/// The pools after a command, as they are printed, and before them why it is refused.
+pub fn applied(
+    alloc: Global,
+    (others, next_txg): (&str, u64),
+    ask: &str,
     extent: Extent,
-) -> Result<(Option<Refusal>, String), Fail> {
-    let alloc = rt.alloc();
+) -> Result<String, Fail> {
     let mut pools = pools(alloc, others, next_txg)?;
-    let refused = match apply(alloc, &mut pools, &command(alloc, ask)?, extent) {
-        Ok(_) => None,
-        Err(ApplyFault::Refused(refusal)) => Some(refusal),
-        Err(ApplyFault::NoMemory) => return Err(Fail::from("memory")),
-    };
-    Ok((refused, pools_text(alloc, &pools)?))
+    let answer = apply(alloc, &mut pools, &command(alloc, ask)?, extent);
+    let text = pools_text(alloc, &pools)?;
+    match answer {
+        Ok(_) => Ok(text),
+        Err(ApplyFault::Refused(why)) => Ok(format!(in alloc; "{why:?} {text}")?),
+        Err(ApplyFault::NoMemory) => Err(Fail::from("memory")),
+    }
 }

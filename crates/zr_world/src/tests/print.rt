@@ -61,11 +61,11 @@ fn push_set(text: &mut String, set: &Dataset) -> Result<(), Fail> {
     for version in set.versions.as_slice() {
         push_version(text, version)?;
     }
-    text.push_str("\n")?;
+    text.push_str(";")?;
     Ok(())
 }
 
-/// A line a dataset, with its versions as `@name:guid:txg:creation[tags]`, and then the counters.
+/// Each dataset with its versions as `@name:guid:txg:creation[tags]` and a `;`, and then the counters.
 pub fn pools_text(alloc: Global, pools: &Pools) -> Result<String, Fail> {
     let mut text = String::new(alloc);
     for set in pools.sets.as_slice() {

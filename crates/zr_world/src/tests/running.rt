@@ -3,13 +3,14 @@
 ghost use Rattle.std.specs.Prelude.{IfOk};
 ghost use Rattle.zr_world.specs.Pools.{IsWellFormed};
 
-use super::fixture::{Ask, TANK_TEXT, command, path, pools, snap};
+use super::fixture::{TANK, command, path, pools, snap, word};
 use super::print::pools_text;
 use crate::{
     Answer, Base, Cmd, Dataset, Entry, Extent, MemZfs, Planned, Pools, Reply, Version, VersionName,
     Zfs, act,
 };
-use std::alloc::Global;
+use std::alloc::{AllocGlobal, Global};
+use std::process::Abort;
 use std::test::Fail;
 use zr_names::{Guid, Moment, Rows, Unit, Work};
 
@@ -23,67 +24,43 @@ fn answer_text(answer: &Answer) -> &'static str {
     }
 }
 
-const FULL: Ask = Ask::Send(("tank", "a", 11), None, "tank/new", false);
-
 /// Commands with the extents at which they are to fail, how they are answered, how many faults there are then, and the
 /// pools below `tank`.
-const ANSWERS: [(Ask, Option<Extent>, &str, u64, &str); 6] = [
-    (
-        FULL,
-        None,
-        "done",
-        0,
-        "\ntank/new @a:11:100:1011\nnow 9000 txg 101 guid 500",
-    ),
-    (
-        FULL,
-        Some(Extent::None),
-        "failed",
-        1,
-        "\nnow 9000 txg 100 guid 500",
-    ),
-    (
-        FULL,
-        Some(Extent::Part),
-        "failed",
-        1,
-        "\ntank/new partial 11 none tank\nnow 9000 txg 100 guid 500",
-    ),
-    (
-        FULL,
-        Some(Extent::Whole),
-        "failed",
-        1,
-        "\ntank/new @a:11:100:1011\nnow 9000 txg 101 guid 500",
-    ),
-    (
-        Ask::DestroySnap("tank", "b"),
-        None,
-        "failed",
-        1,
-        "\nnow 9000 txg 100 guid 500",
-    ),
-    (
-        Ask::DestroySnap("tank", "b"),
-        Some(Extent::Whole),
-        "failed",
-        1,
-        "\nnow 9000 txg 100 guid 500",
-    ),
-];
+const ANSWERS: &str = "\
+send tank a 11 full tank/new|-|done 0|tank/new @a:11:100:1011;now 9000 txg 101 guid 500
+send tank a 11 full tank/new|none|failed 1|now 9000 txg 100 guid 500
+send tank a 11 full tank/new|part|failed 1|tank/new partial 11 none tank;now 9000 txg 100 guid 500
+send tank a 11 full tank/new|whole|failed 1|tank/new @a:11:100:1011;now 9000 txg 101 guid 500
+destroy tank @b|-|failed 1|now 9000 txg 100 guid 500
+destroy tank @b|whole|failed 1|now 9000 txg 100 guid 500";
+
+fn planned(text: &str) -> Option<Extent> {
+    match text {
+        "none" => Some(Extent::None),
+        "part" => Some(Extent::Part),
+        "whole" => Some(Extent::Whole),
+        _ => None,
+    }
+}
+
+/// How a command is answered, the number of faults and the pools then.
+fn answered(alloc: Global, ask: &str, plan: Option<Extent>) -> Result<String, Fail> {
+    let mut pools = pools(alloc, "", 100)?;
+    let mut faults = 0;
+    let answer = act(alloc, &mut pools, &mut faults, &command(alloc, ask)?, plan);
+    let text = pools_text(alloc, &pools)?;
+    Ok(format!(in alloc; "{} {faults} {text}", answer_text(&answer))?)
+}
 
 #[test]
 fn what_fails_may_have_come(rt: HostRuntime) -> Result<(), Fail> {
     let alloc = rt.alloc();
-    for (ask, plan, answer, count, lines) in ANSWERS {
-        let mut pools = pools(alloc, &[], 100)?;
-        let mut faults = 0;
-        let answered = act(alloc, &mut pools, &mut faults, &command(alloc, ask)?, plan);
-        assert_eq!(rt; answer_text(&answered), answer, "{ask:?} {plan:?}");
-        assert_eq!(rt; faults, count, "{ask:?} {plan:?}");
-        let want = format!(in alloc; "{TANK_TEXT}{lines}")?;
-        let text = pools_text(alloc, &pools)?;
-        assert_eq!(rt; text.as_str(), want.as_str(), "{ask:?} {plan:?}");
+    for row in ANSWERS.lines() {
+        let mut words = row.split('|');
+        let text = answered(alloc, word(&mut words), planned(word(&mut words)))?;
+        let (answer, below) = (word(&mut words), word(&mut words));
+        let want = format!(in alloc; "{answer} {TANK};{below}")?;
+        assert_eq!(rt; text.as_str(), want.as_str(), "{row}");
     }
     Ok(())
 }
@@ -114,7 +91,7 @@ fn small(alloc: Global) -> Result<Pools, Fail>
     })
 }
 
-/// The call is a full transfer to `tank/new` that names no guid.
+/// The call is a full transfer to `target` that names no guid.
 fn names_no_guid(entry: &Entry, target: &str) -> bool {
     match entry {
         Entry::Call(Cmd::Transfer(transfer), _) => {
@@ -126,6 +103,32 @@ fn names_no_guid(entry: &Entry, target: &str) -> bool {
     }
 }
 
+/// A transfer of `tank@a` is answered so and leaves these pools below `tank/cut`.
+fn sends<R: Abort + AllocGlobal>(
+    rt: &R,
+    zfs: &mut MemZfs,
+    target: &str,
+    answer: &str,
+    below: &str,
+) -> Result<(), Fail> {
+    let alloc = rt.alloc();
+    let ask = format!(in alloc; "send tank a 11 full {target}")?;
+    let answered = zfs.run(&command(alloc, ask.as_str())?);
+    assert_eq!(rt; answer_text(&answered), answer, "{target}");
+    let want = format!(in alloc; "tank @a:11:1:1011;tank/cut partial 11 none tank;{below}")?;
+    let text = pools_text(alloc, zfs.pools())?;
+    assert_eq!(rt; text.as_str(), want.as_str(), "{target}");
+    Ok(())
+}
+
+/// The last entry of so many is a full transfer to `target` that names no guid.
+fn told_last<R: Abort>(rt: &R, zfs: &MemZfs, count: usize, target: &str) {
+    let told = zfs.told();
+    assert_eq!(rt; told.len(), count);
+    let last = told.last().expect(rt, "an entry");
+    assert!(rt; names_no_guid(last, target));
+}
+
 #[test]
 fn a_record_names_no_guids(rt: HostRuntime) -> Result<(), Fail> {
     let alloc = rt.alloc();
@@ -134,25 +137,12 @@ fn a_record_names_no_guids(rt: HostRuntime) -> Result<(), Fail> {
         extent: Extent::Part,
     };
     let mut zfs = MemZfs::new(alloc, small(alloc)?, vec![in alloc; cut]?);
-    for (target, answer, lines) in [
-        ("tank/cut", "failed", "\nnow 9000 txg 100 guid 500"),
-        (
-            "tank/new",
-            "done",
-            "\ntank/new @a:11:100:1011\nnow 9000 txg 101 guid 500",
-        ),
-    ] {
-        let ask = Ask::Send(("tank", "a", 11), None, target, false);
-        let answered = zfs.run(&command(alloc, ask)?);
-        assert_eq!(rt; answer_text(&answered), answer, "{target}");
-        let want = format!(in alloc; "tank @a:11:1:1011\ntank/cut partial 11 none tank{lines}")?;
-        let text = pools_text(alloc, zfs.pools())?;
-        assert_eq!(rt; text.as_str(), want.as_str(), "{target}");
-        let told = zfs.told();
-        assert!(rt; !told.is_empty());
-        assert!(rt; names_no_guid(&told[told.len() - 1], target));
-    }
-    assert_eq!(rt; zfs.told().len(), 2);
+    let none = "now 9000 txg 100 guid 500";
+    sends(&rt, &mut zfs, "tank/cut", "failed", none)?;
+    told_last(&rt, &zfs, 1, "tank/cut");
+    let came = "tank/new @a:11:100:1011;now 9000 txg 101 guid 500";
+    sends(&rt, &mut zfs, "tank/new", "done", came)?;
+    told_last(&rt, &zfs, 2, "tank/new");
     Ok(())
 }
 

@@ -1,6 +1,5 @@
-use Rattle.std.proofs.Common.{◌≡◌, ◌∙◌, ap, ℕ, ◌+◌, ◌-◌, ◌<◌, List, [], map, arith, subst, sym, inl, inr, get_or, Bool, true, false, not}
-use Rattle.std.proofs.lemmas.List.{get_or-map, length-map}
-use Rattle.std.specs.String.{string_bytes}
+use Rattle.std.proofs.Common.{◌≡◌, ◌∙◌, ap, ℕ, ◌+◌, ◌-◌, List, [], map, arith, subst, sym, inl, inr, get_or}
+use Rattle.std.proofs.lemmas.List.{get_or-map}
 use Rattle.zr_cmd.specs.Forms.{Fits, Pattern, a_path, pattern_of, word_at}
 use Rattle.zr_cmd.specs.Steps.{FitsAt, texts}
 use Rattle.zr_cmd.specs.declared.forms.Part.{Part}

@@ -1,12 +1,11 @@
-use Rattle.std.proofs.Common.{◌≡◌, ◌∙◌, ◌+◌, ℕ, map, arith, subst, sym, refl, get_or, length, List, ap, max}
+use Rattle.std.proofs.Common.{◌≡◌, ◌+◌, ℕ, map, arith, subst, sym, refl, get_or, length, List, ap, max}
 use Rattle.std.proofs.lemmas.List.{length-map}
 use Rattle.std.specs.String.{string_bytes}
-use Rattle.zr_cmd.specs.Forms.{Pattern, pattern_of, patterns_of, read_as}
+use Rattle.zr_cmd.specs.Forms.{Pattern, pattern_of, patterns_of}
 use Rattle.zr_cmd.specs.Steps.{IsFront, texts}
 use Rattle.zr_cmd.specs.Words.{Spells}
-use Rattle.zr_cmd.specs.declared.forms.Form.{Form}
 use Rattle.zr_cmd.specs.declared.forms.Form.TheVariants as form
-use Rattle.zr_cmd.proofs.Longest.{IsWhole, Tried, at-place, bad-word, forms, more-tried, none-tried, unknown, whole-from, whole-spelled}
+use Rattle.zr_cmd.proofs.Longest.{Tried, at-place, bad-word, forms, more-tried, none-tried, unknown, whole-from, whole-spelled}
 use Rattle.zr_cmd.proofs.reading.read_argv.Goals as goal
 use Rattle.zr_cmd.proofs.reading.read_argv.Goals.{else-count-words-via-then-count-words+else-count-parts, else-count-words-via-else-count-words}
 
