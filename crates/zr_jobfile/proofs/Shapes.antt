@@ -1,9 +1,10 @@
-use Rattle.std.proofs.Common.{◌≡◌, ◌≢◌, ◌<◌, ◌≤◌, ℕ, List, [], ◌∷◌, Option, Some, None, IfNone, codes, length, refl, sym, ◌∙◌}
+use Rattle.std.proofs.Common.{◌≡◌, ◌≢◌, ◌==◌, ◌↔◌, ◌<◌, ◌≤◌, ℕ, Bool, IsTrue, List, [], ◌∷◌, Option, Some, None, IfNone, codes, length, refl, sym, ap, arith, ◌∙◌}
 use Rattle.std.specs.Option.{MatchOption}
-use Rattle.toml.specs.Data.{Data, item, no_items, Members, member, string, table}
+use Rattle.toml.specs.Data.{array, Data, item, Items, no_items, Members, member, string, table}
 use Rattle.toml.specs.View.{items_view}
 use Rattle.toml.specs.declared.value.Value.{Value}
-use Rattle.zr_jobfile.specs.SnapFile.{filter_tree, job_end, job_tree, one_job_file, pruning_tree, snap_file}
+use Rattle.zr_jobfile.specs.SnapFile.{job_tree, one_job_file, pruning_tree, snap_file}
+use Rattle.zr_jobfile.specs.Trees.{filter_tree, job_end}
 
 pub if_none : {T : Type 0} (o : Option T) (P : Type 0) → P → IfNone o P
 if_none None P p = p
@@ -13,6 +14,30 @@ if_none (Some x) P p = tt
 pub half_none : {T : Type 0} (o : Option T) (P : Type 0) (Q : T → Type 0) → MatchOption o P Q → IfNone o P
 half_none None P Q h = h
 half_none (Some x) P Q h = tt
+
+pub two_values : (values : List Value) (first second : Data) → items_view values ≡ item first (item second no_items) → length values ≡ 2
+two_values [] first second e = cc
+two_values (v ∷ []) first second e = cc
+two_values (v ∷ w ∷ []) first second e = refl
+two_values (v ∷ w ∷ x ∷ values) first second e = cc
+
+no_values : (values : List Value) → length values ≡ 0 → items_view values ≡ no_items
+no_values [] e = refl
+no_values (v ∷ values) e = absurd (omega (arith, e))
+
+empty_values : (values : List Value) → items_view values ≡ no_items → length values ≡ 0
+empty_values [] e = refl
+empty_values (v ∷ values) e = cc
+
+same_items : (one other : Items) → array one ≡ array other → one ≡ other
+same_items one other e = cc
+
+-- a test for an empty array
+pub tells_empty : (seen : Data) (values : List Value) (test : Bool) → seen ≡ array (items_view values) → test ≡ (length values == 0) → IsTrue test ↔ (seen ≡ array no_items)
+tells_empty seen values test is by = (
+  λ t. let none : length values ≡ 0 = grind arith in is ∙ ap array (no_values values none),
+  λ e. let none : length values ≡ 0 = empty_values values (same_items (items_view values) no_items (sym is ∙ e)) in grind arith,
+)
 
 pub one_item : (values : List Value) (inner : Data) → items_view values ≡ item inner no_items → length values ≡ 1
 one_item [] inner e = cc
@@ -49,9 +74,9 @@ table_members inside other e = cc
 -- a value that goes on, after its filter and its name, with no pruning of a job is no job
 pub no_pruning : (value filter name : Data) (members named pruned : Members) → value ≡ table members → members ≡ member (codes "filesystems") filter named → named ≡ member (codes "name") name pruned → ((count : ℕ) (rest : Members) → 0 < count → count ≤ 4294967295 → pruned ≢ member (codes "pruning") (pruning_tree count) rest) → IsNoJob value
 no_pruning value filter name members named pruned a b d none title pattern count some fits e =
-    let third : Members = member (codes "pruning") (pruning_tree count) job_end in
+    let third : Members = member (codes "pruning") (pruning_tree count) (job_end (codes "snap")) in
     let second : Members = member (codes "name") (string title) third in
     let whole = table_members members (member (codes "filesystems") (filter_tree pattern) second) (sym a ∙ e) in
     let one = rest_of_filter filter (filter_tree pattern) named second (sym b ∙ whole) in
     let two = rest_of_name name (string title) pruned third (sym d ∙ one) in
-    none count job_end some fits two
+    none count (job_end (codes "snap")) some fits two

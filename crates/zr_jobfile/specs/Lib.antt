@@ -1,1 +1,4 @@
+pub mod JobFile
+pub mod PushFile
 pub mod SnapFile
+pub mod Trees

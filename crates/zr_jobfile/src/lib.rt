@@ -1,12 +1,14 @@
 //! The job file: which bytes are accepted, and the jobs that they give.
 #![tactic(auto)]
 
-ghost use Rattle.zr_jobfile.specs.SnapFile.{ReadsJobs};
+ghost use Rattle.zr_jobfile.specs.JobFile.{ReadsJobs};
 
 mod building;
+mod push_shape;
 mod shape;
+mod snap_shape;
 
-use std::alloc::Global;
+use std::alloc::{AllocError, Global};
 use toml::table_from_slice;
 use zr_permit::JobSet;
 
@@ -20,13 +22,26 @@ pub enum JobFault {
     TooManyBytes,
     /// The bytes are no TOML document (TOML v1.0.0, which asks for UTF-8).
     NotToml,
-    /// The document has another shape than a job file with one snap job.
+    /// The document has another shape than the two job files that are read, or its jobs do not go together.
     NotBuilt,
     NoMemory,
 }
 
-/// Reads a job file with one snap job, as the documentation of zrepl writes it ("Job Type snap"):
-/// one filesystem pattern, manual snapshotting, and one rule `last_n`.
+impl From<AllocError> for JobFault {
+    ghost use Rattle.std.specs.Prelude.{◌≡◌};
+    ghost use Rattle.zr_jobfile.specs.declared.JobFault.TheVariants.{NoMemory};
+
+    ghost from_gives = { λ _ fault. fault ≡ NoMemory };
+
+    fn from(_error: AllocError) -> JobFault {
+        JobFault::NoMemory
+    }
+}
+
+/// Reads a job file, as the documentation of zrepl writes it: with one snap job ("Job Type snap"), which has one
+/// filesystem pattern, manual snapshotting, and one rule `last_n`; or with a push job of one filesystem, manual
+/// snapshotting and no rules, and behind it the sink job whose listener it connects to ("Job Types push & sink").
+/// A push job and its sink are one job, that of the push.
 pub fn read_jobs(alloc: Global, bytes: &[u8]) -> Result<JobSet, JobFault>
     ensures { ReadsJobs bytes.now result }
 {

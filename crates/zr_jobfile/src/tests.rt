@@ -5,6 +5,8 @@ use std::test::Fail;
 use zr_names::Path;
 use zr_permit::RuleSpec;
 
+mod push;
+
 // A file as a person writes it.
 const FILE: &str =
     "[[jobs]]\nname = \"s\"\ntype = \"snap\"\n[jobs.filesystems]\n\"tank<\" = true\n[jobs.snapshotting]\ntype = \"manual\"\n[[jobs.pruning.keep]]\ntype = \"last_n\"\ncount = 2\n";

@@ -2,7 +2,7 @@
 #![tactic(auto)]
 
 pub use identity::{Identity, IdentityFault, read_identity};
-pub use target::{Destination, LONGEST_PATH, TargetFault, target_of};
+pub use target::{Destination, LONGEST_PATH, TargetFault, target_length, target_of};
 
 pub mod identity;
 pub mod laws;

@@ -22,6 +22,20 @@ pub enum Destination {
     Pull { root: Path },
 }
 
+impl Destination {
+    ghost use Rattle.std.specs.Prelude.{◌≡◌};
+    ghost use Rattle.zr_jobs.specs.Targets.{root_of};
+
+    /// The root below which all of its targets lie.
+    pub fn root(&self) -> &Path
+        ensures { result.now ≡ root_of self.now }
+    {
+        match self {
+            Destination::Push { root, .. } | Destination::Pull { root } => root,
+        }
+    }
+}
+
 /// Why a source has no target.
 #[derive(Clone, Copy, Debug, PartialEq, Eq)]
 pub enum TargetFault {
@@ -42,7 +56,8 @@ impl From<AllocError> for TargetFault {
     }
 }
 
-fn target_length(place: &Destination, source: &Path) -> usize
+/// The length of the path at which a destination keeps a source, in bytes.
+pub fn target_length(place: &Destination, source: &Path) -> usize
     ensures length { result ≡ length (target_text place.now source.now) }
     ensures identity { HasIdentity place.now }
     ensures root { IsName path_is_bad PATH_LIMIT (root_of place.now) }

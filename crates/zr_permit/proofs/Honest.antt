@@ -17,7 +17,7 @@ use Rattle.zr_permit.specs.declared.job.JobSet.{JobSet}
 use Rattle.zr_permit.specs.declared.job.RuleSpec.{RuleSpec}
 use Rattle.zr_permit.specs.Honest.{IsHonest, MayGo, WasListed}
 use Rattle.zr_permit.specs.Jobs.{job_at, pair_of, rules_of}
-use Rattle.zr_permit.specs.declared.known.Pair.{Pair}
+use Rattle.zr_known.specs.declared.known.Pair.{Pair}
 use Rattle.zr_permit.specs.Keep.{doomed, going, going_from, retained}
 use Rattle.zr_permit.specs.Transcript.{Allowed, doomed_in, Legal, LegalAfter, later_of, listed, Permits, rows_told, Transcript, Turn, Replicates}
 

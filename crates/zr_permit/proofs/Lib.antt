@@ -5,6 +5,5 @@ pub mod Dooming
 pub mod Listing
 pub mod Honest
 pub mod Running
-pub mod Knowing
 pub mod Reading
-pub mod Decisions
+pub mod Pairs

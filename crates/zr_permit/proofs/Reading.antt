@@ -11,11 +11,11 @@ use Rattle.zr_world.specs.declared.command.Transfer.{Transfer}
 use Rattle.zr_world.specs.Plain.{plain}
 use Rattle.zr_permit.specs.declared.job.JobSet.{JobSet}
 use Rattle.zr_permit.specs.Jobs.{job_at, pair_of}
-use Rattle.zr_permit.specs.declared.known.Pair.{Pair}
-use Rattle.zr_permit.specs.Known.{known_of}
+use Rattle.zr_known.specs.declared.known.Pair.{Pair}
+use Rattle.zr_known.specs.Known.{known_of}
 use Rattle.zr_permit.specs.Transcript.{LegalAfter, Permits, Replicates, Transcript, Turn}
 use Rattle.zr_permit.specs.Turned.{calls}
-use Rattle.zr_permit.proofs.Knowing.{one-transfer}
+use Rattle.zr_known.proofs.Knowing.{one-transfer}
 
 abbrev is_transfer : Cmd → Bool
 is_transfer (cmd.Transfer transfer) = true

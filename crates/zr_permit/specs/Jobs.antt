@@ -1,4 +1,4 @@
-use Rattle.std.specs.Prelude.{⊤, ◌≡◌, ℕ, ◌<◌, Bool, false, List, [], ◌∷◌, Option, Some, None, nat_le, Contains, IsPermutation, filter, map, flat_map, length, slice_get}
+use Rattle.std.specs.Prelude.{⊤, ◌≡◌, ◌&&◌, ℕ, ◌<◌, Bool, true, false, List, [], ◌∷◌, ◌++◌, Option, Some, None, nat_le, Contains, IsPermutation, filter, map, flat_map, length, slice_get}
 use Rattle.std.specs.List.Sorted.{IsSorted}
 use Rattle.std.specs.Ordering.{nat_cmp}
 use Rattle.std.specs.Cmp.Lexicographic.{slice_cmp}
@@ -8,7 +8,7 @@ use Rattle.zr_names.specs.declared.unit.Work.TheVariants as work
 use Rattle.zr_world.specs.declared.version.SetRow.{SetRow}
 use Rattle.zr_jobs.specs.Targets.{root_of, target_text}
 use Rattle.zr_jobs.specs.declared.target.Destination.{Destination}
-use Rattle.zr_permit.specs.declared.known.Pair.{Pair}
+use Rattle.zr_known.specs.declared.known.Pair.{Pair}
 use Rattle.zr_permit.specs.declared.job.Job.{Job}
 use Rattle.zr_permit.specs.declared.job.JobSet.{JobSet}
 use Rattle.zr_filter.specs.Rule.{matches}
@@ -43,23 +43,49 @@ pair_of (Some job) source = pair_in job source job.destination
 abbrev pub matched : Option Job → List SetRow → List (List ℕ)
 matched job rows = filter (matches_in job) (map (λ row. row.path) rows)
 
+-- where a job puts what it replicates, if it replicates
+abbrev pub destination_of : Option Job → Option Destination
+destination_of None = None
+destination_of (Some job) = job.destination
+
 -- a path that a unit can work on: a bookmark's name still fits behind it
 abbrev pub fits : List ℕ → Bool
 fits path = nat_le (length path) LONGEST_PATH
 
--- the units of one path: its snapshots are pruned where the job has rules
-abbrev pub units_at : ℕ → ℕ → List RuleSpec → List ℕ → List Unit
-units_at number moment [] path = []
-units_at number moment (rule ∷ rules) path =
+-- the same of its target, where there is one
+abbrev pub fits_target : Option Destination → List ℕ → Bool
+fits_target None source = true
+fits_target (Some place) source = fits (target_text place source)
+
+-- a path that a job's units can work on: neither the path nor its target is too long
+abbrev pub fits_in : Option Job → List ℕ → Bool
+fits_in job path = fits path && fits_target (destination_of job) path
+
+-- a path is replicated where its job has a destination
+abbrev pub replications : Option Destination → ℕ → ℕ → List ℕ → List Unit
+replications None number moment path = []
+replications (Some place) number moment path =
+    record { job = number; moment = moment; work = work.Replicate path } ∷ []
+
+-- its snapshots are pruned where its job has rules
+abbrev pub prunings : List RuleSpec → ℕ → ℕ → List ℕ → List Unit
+prunings [] number moment path = []
+prunings (rule ∷ rules) number moment path =
     record { job = number; moment = moment; work = work.PruneSource path } ∷ []
+
+-- the units of one path: it is replicated first, then pruned
+abbrev pub units_at : Option Job → ℕ → ℕ → List ℕ → List Unit
+units_at job number moment path =
+    replications (destination_of job) number moment path ++ prunings (rules_of job) number moment path
 
 -- the units that a scan of a job gives over a listing: those of each matched path that is not too long,
 -- in byte order of paths, all with the moment of the scan
 pub record UnitsOf (jobs : JobSet) (number moment : ℕ) (rows : List SetRow) (units : List Unit) : Type 0 where
   pub paths : List (List ℕ)
-  pub listed : IsPermutation (filter fits (matched (job_at jobs number) rows)) paths
+  pub listed :
+      IsPermutation (filter (fits_in (job_at jobs number)) (matched (job_at jobs number) rows)) paths
   pub rising : IsSorted (slice_cmp nat_cmp) paths
-  pub units_are : units ≡ flat_map (units_at number moment (rules_of (job_at jobs number))) paths
+  pub units_are : units ≡ flat_map (units_at (job_at jobs number) number moment) paths
 
 -- a unit that a scan of its job gives for some listing
 pub record IsScanned (jobs : JobSet) (unit : Unit) : Type 0 where

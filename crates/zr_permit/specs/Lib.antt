@@ -1,9 +1,6 @@
-pub mod Deciding
 pub mod Honest
 pub mod Jobs
 pub mod Keep
-pub mod Known
-pub mod Replication
 pub mod Result
 pub mod Runs
 pub mod Seen

@@ -1,4 +1,4 @@
-use Rattle.std.specs.Prelude.{⊤, ◌≡◌, ℕ, ◌+◌, ◌-◌, ◌^◌, List, [], ◌∷◌, Some, All, Contains, Bool, true, false, count_by, filter, length, map, min, not, slice_get}
+use Rattle.std.specs.Prelude.{⊤, ◌≡◌, ℕ, ◌+◌, ◌-◌, ◌^◌, ◌<◌, List, [], ◌∷◌, Some, All, Contains, Bool, true, false, count_by, filter, length, map, min, not, slice_get}
 use Rattle.zr_names.specs.declared.outcome.Outcome.{Outcome}
 use Rattle.zr_names.specs.declared.outcome.Outcome.TheVariants as outcome
 use Rattle.zr_names.specs.declared.unit.Unit.{Unit}
@@ -12,10 +12,14 @@ use Rattle.zr_world.specs.declared.command.Reply.TheVariants as reply
 use Rattle.zr_world.specs.declared.version.SetRow.{SetRow}
 use Rattle.zr_world.specs.declared.version.VersionRow.{VersionRow}
 use Rattle.zr_permit.specs.declared.job.JobSet.{JobSet}
+use Rattle.zr_known.specs.declared.known.Pair.{Pair}
+use Rattle.zr_known.specs.declared.straight.TheConstants.{NOT_STRAIGHT}
 use Rattle.zr_permit.specs.declared.told.Told.{Told}
 use Rattle.zr_permit.specs.declared.told.Told.TheVariants as told
-use Rattle.zr_permit.specs.Jobs.{fits, job_at, matched, rules_of}
+use Rattle.zr_permit.specs.Jobs.{fits_in, job_at, matched, pair_of, rules_of}
 use Rattle.zr_permit.specs.Keep.{doomed}
+use Rattle.zr_known.specs.Known.{known_of}
+use Rattle.zr_known.specs.Straight.{has_listed, is_listing, is_straight, IsFinished}
 use Rattle.zr_permit.specs.Transcript.{GoesOn, listed, Transcript, Turn}
 
 -- a number in an outcome stays at the greatest `u32` once there
@@ -31,15 +35,23 @@ abbrev pub is_failed_destroy : Cmd → Answer → Bool
 is_failed_destroy (cmd.DestroySnap path name) answer.Failed = true
 is_failed_destroy command given = false
 
+-- a transfer that was done
+abbrev pub is_done_transfer : Cmd → Answer → Bool
+is_done_transfer (cmd.Transfer transfer) (answer.Done given) = true
+is_done_transfer command given = false
+
 -- a scan has finished: the datasets were listed, and these are the numbers of matched paths on which a
--- unit can work, and of those that are too long
+-- unit can work, and of those that are too long or have a target that is
 pub record HasScanned (jobs : JobSet) (unit : Unit) (turns : Transcript) (found too_long : ℕ) : Type 0 where
   pub work_is : unit.work ≡ work.Scan
   pub rows : List SetRow
   pub told : turns ≡ (cmd.Sets, answer.Done (reply.Sets rows)) ∷ []
-  pub found_are : found ≡ capped (length (filter fits (matched (job_at jobs unit.job) rows)))
+  pub found_are :
+      found ≡ capped (length (filter (fits_in (job_at jobs unit.job)) (matched (job_at jobs unit.job) rows)))
   pub too_long_are :
-      too_long ≡ capped (length (filter (λ path. not (fits path)) (matched (job_at jobs unit.job) rows)))
+      too_long
+      ≡ capped (length
+      (filter (λ path. not (fits_in (job_at jobs unit.job) path)) (matched (job_at jobs unit.job) rows)))
 
 -- a prune unit has finished: its dataset was listed, and the destroy of each doomed snapshot was given
 pub record HasPruned (jobs : JobSet) (unit : Unit) (turns : Transcript) (destroyed busy : ℕ) : Type 0 where
@@ -53,6 +65,29 @@ pub record HasPruned (jobs : JobSet) (unit : Unit) (turns : Transcript) (destroy
       (doomed (rules_of (job_at jobs unit.job)) rows)
   pub destroyed_are : destroyed ≡ capped (count_by (λ (turn : Turn). is_done_destroy turn.0 turn.1) turns)
   pub busy_are : busy ≡ capped (count_by (λ (turn : Turn). is_failed_destroy turn.0 turn.1) turns)
+
+-- a replication unit of a pair has done what it gave
+pub record IsReplicating (jobs : JobSet) (unit : Unit) (turns : Transcript) (pair : Pair) : Type 0 where
+  pub path : List ℕ
+  pub work_is : unit.work ≡ work.Replicate path
+  pub pair_is : pair_of (job_at jobs unit.job) path ≡ Some pair
+  pub goes_on : All (λ turn. GoesOn unit.work turn.0 turn.1) turns
+
+-- a replication unit has finished, with this number of transfers
+pub record HasReplicated (jobs : JobSet) (unit : Unit) (turns : Transcript) (steps : ℕ) : Type 0 where
+  pub pair : Pair
+  pub replicating : IsReplicating jobs unit turns pair
+  pub finished : IsFinished pair (known_of pair turns)
+  pub steps_are : steps ≡ capped (count_by (λ (turn : Turn). is_done_transfer turn.0 turn.1) turns)
+
+-- a replication unit has listed all, and done nothing else, since what is there is not straight
+pub record HasConflict (jobs : JobSet) (unit : Unit) (turns : Transcript) (number : ℕ) : Type 0 where
+  pub pair : Pair
+  pub replicating : IsReplicating jobs unit turns pair
+  pub lists_alone : All (λ turn. is_listing turn.0 ≡ true) turns
+  pub listed : has_listed pair (known_of pair turns) ≡ true
+  pub not_straight : is_straight pair (known_of pair turns) ≡ false
+  pub number_is : number ≡ NOT_STRAIGHT
 
 -- the command of this number, counted from 1, failed, and it is none after which the unit goes on
 pub record FaultsAt (unit_work : Work) (turns : Transcript) (number : ℕ) : Type 0 where
@@ -73,6 +108,9 @@ pub record GarbledAt (turns : Transcript) (number line : ℕ) : Type 0 where
 abbrev pub ResultOf : JobSet → Unit → Transcript → Outcome → Type 0
 ResultOf jobs unit turns (outcome.Scanned found too_long) = HasScanned jobs unit turns found too_long
 ResultOf jobs unit turns (outcome.Pruned destroyed busy) = HasPruned jobs unit turns destroyed busy
+ResultOf jobs unit turns outcome.UpToDate = HasReplicated jobs unit turns 0
+ResultOf jobs unit turns (outcome.Replicated steps) = HasReplicated jobs unit turns steps × (0 < steps)
+ResultOf jobs unit turns (outcome.Conflict number) = HasConflict jobs unit turns number
 ResultOf jobs unit turns (outcome.ChildFault number) = FaultsAt unit.work turns number
 ResultOf jobs unit turns (outcome.Garbled number line) = GarbledAt turns number line
 ResultOf jobs unit turns outcome.NoMemory = ⊤

@@ -12,9 +12,9 @@ use Rattle.zr_world.specs.declared.version.VersionRow.{VersionRow}
 use Rattle.zr_permit.specs.declared.job.JobSet.{JobSet}
 use Rattle.zr_permit.specs.Jobs.{job_at, pair_of, rules_of}
 use Rattle.zr_permit.specs.Keep.{doomed}
-use Rattle.zr_permit.specs.declared.known.Pair.{Pair}
-use Rattle.zr_permit.specs.Known.{known_of}
-use Rattle.zr_permit.specs.Replication.{MayGive}
+use Rattle.zr_known.specs.declared.known.Pair.{Pair}
+use Rattle.zr_known.specs.Known.{known_of}
+use Rattle.zr_known.specs.Replication.{MayGive}
 
 -- one command of a unit, and how it was answered
 abbrev pub Turn : Type 0

@@ -1,9 +1,13 @@
-ghost use Rattle.std.specs.Prelude.{◌≡◌};
-ghost use Rattle.zr_permit.specs.Jobs.{fits};
+ghost use Rattle.std.specs.Prelude.{◌≡◌, IfErr, IfOk, true};
+ghost use Rattle.std.specs.Option.{option_copied};
+ghost use Rattle.zr_jobs.specs.declared.target.TargetFault.TheVariants as target_fault;
+ghost use Rattle.zr_permit.specs.Jobs.{fits, fits_target, pair_in};
 
+use std::alloc::Global;
 use zr_filter::{Filter, matches};
-use zr_jobs::Destination;
-use zr_names::{JobName, Path, Rows};
+use zr_jobs::{Destination, TargetFault, target_length, target_of};
+use zr_known::Pair;
+use zr_names::{JobName, NoMemory, Path, Rows, Same, Unit};
 
 /// The longest path on which a unit works, in bytes: a bookmark's name of the longest kind still fits
 /// behind it into the 255 bytes that ZFS allows.
@@ -35,9 +39,11 @@ pub struct JobSet {
 }
 
 impl JobSet {
-    ghost use Rattle.std.specs.Prelude.{◌≡◌};
+    ghost use Rattle.std.specs.Prelude.{◌≡◌, IfErr, IfOk, Some, true};
     ghost use Rattle.std.specs.Option.{option_copied};
-    ghost use Rattle.zr_permit.specs.Jobs.{job_at, matches_in, rules_of};
+    ghost use Rattle.zr_jobs.specs.declared.target.TargetFault.TheVariants as target_fault;
+    ghost use Rattle.zr_names.specs.declared.unit.Work.TheVariants as work;
+    ghost use Rattle.zr_permit.specs.Jobs.{destination_of, fits_in, IsOfFile, job_at, matches_in, pair_of, rules_of};
 
     /// The job of this number.
     pub fn job(&self, number: u32) -> Option<&Job>
@@ -65,11 +71,84 @@ impl JobSet {
             None => &[],
         }
     }
+
+    /// Where a job puts what it replicates.
+    pub fn destination(&self, number: u32) -> Option<&Destination>
+        ensures { option_copied result ≡ destination_of (job_at self.now number) }
+    {
+        match self.job(number) {
+            Some(job) => job.destination.as_ref(),
+            None => None,
+        }
+    }
+
+    /// Whether a job's units can work on a path: neither the path nor its target is too long.
+    pub fn fits(&self, number: u32, path: &Path) -> bool
+        ensures { result ≡ fits_in (job_at self.now number) path.now }
+    {
+        fits(path) && fits_target(self.destination(number), path)
+    }
+
+    /// What a job replicates from a source, if it replicates. Where the source fits, a fault is want of memory.
+    pub fn pair(
+        &self,
+        alloc: Global,
+        number: u32,
+        source: &Path,
+    ) -> Result<Option<Pair>, TargetFault>
+        ensures pair { IfOk result (λ pair. pair ≡ pair_of (job_at self.now number) source.now) }
+        ensures fault { IfErr result (λ fault.
+            fits_in (job_at self.now number) source.now ≡ true → fault ≡ target_fault.NoMemory) }
+    {
+        match self.job(number) {
+            Some(job) => pair_in(alloc, job, source),
+            None => Ok(None),
+        }
+    }
+
+    /// What a unit of the job file replicates.
+    pub fn unit_pair(&self, alloc: Global, unit: &Unit, source: &Path) -> Result<Pair, NoMemory>
+        requires of_file { IsOfFile self.now unit.now }
+        requires kind { unit.now.work ≡ work.Replicate source.now }
+        ensures { IfOk result (λ pair. pair_of (job_at self.now unit.now.job) source.now ≡ Some pair) }
+    {
+        match self.pair(alloc, unit.job, source) {
+            Ok(Some(pair)) => Ok(pair),
+            Ok(None) => unreachable!(),
+            Err(TargetFault::NameTooLong(_)) => unreachable!(),
+            Err(TargetFault::NoMemory) => Err(NoMemory),
+        }
+    }
 }
 
-/// Whether units can work on a path: it is not too long.
-pub fn fits(path: &Path) -> bool
+/// Whether a path is not too long to work on.
+pub(crate) fn fits(path: &Path) -> bool
     ensures { result ≡ fits path.now }
 {
     path.as_bytes().len() <= LONGEST_PATH
+}
+
+fn fits_target(destination: Option<&Destination>, source: &Path) -> bool
+    ensures { result ≡ fits_target (option_copied destination.entry) source.now }
+{
+    match destination {
+        Some(place) => target_length(place, source) <= LONGEST_PATH,
+        None => true,
+    }
+}
+
+fn pair_in(alloc: Global, job: &Job, source: &Path) -> Result<Option<Pair>, TargetFault>
+    ensures pair { IfOk result (λ pair. pair ≡ pair_in job.now source.now job.now.destination) }
+    ensures fault { IfErr result (λ fault.
+        fits_target job.now.destination source.now ≡ true → fault ≡ target_fault.NoMemory) }
+{
+    let Some(place) = &job.destination else {
+        return Ok(None);
+    };
+    Ok(Some(Pair {
+        job: job.name.same()?,
+        source: source.same()?,
+        target: target_of(alloc, place, source)?,
+        root: place.root().same()?,
+    }))
 }

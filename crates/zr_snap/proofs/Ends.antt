@@ -1,13 +1,20 @@
-use Rattle.std.proofs.Common.{◌≡◌, ◌≢◌, ℕ, [], subst, sym}
+use Rattle.std.proofs.Common.{◌≡◌, ◌≢◌, ◌∙◌, ℕ, List, [], ◌∷◌, Option, ap, filter, length, not, refl, subst, sym}
 use Rattle.std.specs.List.{All}
 use Rattle.std.proofs.lemmas.List.Elements.{All-nil}
+use Rattle.zr_names.specs.declared.outcome.Outcome.{Outcome}
+use Rattle.zr_names.specs.declared.outcome.Outcome.TheVariants as outcome
 use Rattle.zr_names.specs.declared.unit.Unit.{Unit}
 use Rattle.zr_names.specs.declared.unit.Work.{Work}
 use Rattle.zr_names.specs.declared.unit.Work.TheVariants as work
 use Rattle.zr_world.specs.declared.command.Answer.TheVariants as answer
 use Rattle.zr_world.specs.declared.command.Cmd.TheVariants as cmd
+use Rattle.zr_world.specs.declared.command.Reply.TheVariants as reply
+use Rattle.zr_world.specs.declared.version.SetRow.{SetRow}
 use Rattle.zr_permit.specs.declared.told.Told.TheVariants as told
+use Rattle.zr_permit.specs.declared.job.Job.{Job}
 use Rattle.zr_permit.specs.declared.job.JobSet.{JobSet}
+use Rattle.zr_permit.specs.Jobs.{fits_in, job_at, matched}
+use Rattle.zr_permit.specs.Result.{capped, ResultOf}
 use Rattle.zr_permit.specs.Transcript.{Allowed, GoesOn, Permits, Transcript, Turn}
 
 pub failed-undone : told.Failed ≢ told.Done
@@ -33,3 +40,21 @@ scan-allowed jobs unit turns none is =
       is_new = tt;
       permits = subst May (sym is) tt;
     }
+
+-- the outcome of a scan over a listing
+abbrev pub scanned : Option Job → List SetRow → Outcome
+scanned job rows = outcome.Scanned (capped (length (filter (fits_in job) (matched job rows)))) (capped (length (filter (λ path. not (fits_in job path)) (matched job rows))))
+
+-- a scan that has listed the datasets has this result
+pub scanned-result : (jobs jobs' : JobSet) (unit unit' : Unit) (turns : Transcript) (rows : List SetRow) (ended : Outcome) → jobs' ≡ jobs → unit' ≡ unit → unit.work ≡ work.Scan → turns ≡ (cmd.Sets, answer.Done (reply.Sets rows)) ∷ [] → ended ≡ scanned (job_at jobs' unit'.job) rows → ResultOf jobs unit turns ended
+scanned-result jobs jobs' unit unit' turns rows ended same_jobs same_unit is told ends =
+    let by_jobs : JobSet → Outcome = λ j. scanned (job_at j unit'.job) rows in
+    let by_unit : Unit → Outcome = λ u. scanned (job_at jobs u.job) rows in
+    let of : Outcome → Type 0 = λ o. ResultOf jobs unit turns o in
+    subst of (sym (ends ∙ ap by_jobs same_jobs ∙ ap by_unit same_unit)) (record {
+      work_is = is;
+      rows = rows;
+      told = told;
+      found_are = refl;
+      too_long_are = refl;
+    })

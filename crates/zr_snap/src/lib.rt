@@ -8,7 +8,7 @@ ghost use Rattle.std.specs.Cmp.Lexicographic.{slice_cmp};
 ghost use Rattle.zr_names.specs.Count.{Rose};
 ghost use Rattle.zr_names.specs.declared.outcome.Outcome.TheVariants as outcome;
 ghost use Rattle.zr_names.specs.declared.unit.Work.TheVariants as work;
-ghost use Rattle.zr_permit.specs.Jobs.{fits, job_at, matched, rules_of, units_at, UnitsOf};
+ghost use Rattle.zr_permit.specs.Jobs.{destination_of, fits_in, job_at, matched, prunings, replications, rules_of, units_at, UnitsOf};
 ghost use Rattle.zr_permit.specs.Result.{capped, is_child_fault, is_out_of_memory, ResultOf};
 ghost use Rattle.zr_permit.specs.Turned.{HasTurned, is_short, Records, RecordsRun, RecordsUnit, Turns};
 ghost use Rattle.zr_snap.specs.Scanning.{Gives};
@@ -17,7 +17,7 @@ ghost use Rattle.zr_world.specs.declared.command.Entry.{Entry};
 
 use std::alloc::{AllocError, Global};
 use zr_names::{Moment, Outcome, Path, Rows, Same, Unit, Work};
-use zr_permit::{Guarded, JobSet, RuleSpec, Told, fits};
+use zr_permit::{Guarded, JobSet, Told};
 use zr_world::{Answer, Cmd, Reply, SetRow, Zfs};
 
 /// The listed paths that a job's filter matches and on which units can work.
@@ -27,24 +27,26 @@ fn fitting_paths(
     job: u32,
     rows: &[SetRow],
 ) -> Result<Vec<Path>, AllocError>
-    ensures { IfOk result (λ paths. paths.items ≡ filter fits (matched (job_at jobs.now job) rows.now)) }
+    ensures { IfOk result (λ paths.
+        paths.items ≡ filter (fits_in (job_at jobs.now job)) (matched (job_at jobs.now job) rows.now)) }
 {
     let mut paths = Vec::new(alloc);
     for row in rows {
-        if jobs.matches(job, &row.path) && fits(&row.path) {
+        if jobs.matches(job, &row.path) && jobs.fits(job, &row.path) {
             paths.push(row.path.same()?)?;
         }
     }
     Ok(paths)
 }
 
-/// How many of the listed paths that a job's filter matches are too long to work on.
+/// How many of the listed paths that a job's filter matches are too long to work on, or have a target that is.
 fn too_long_count(jobs: &JobSet, job: u32, rows: &[SetRow]) -> usize
-    ensures { result ≡ length (filter (λ path. not (fits path)) (matched (job_at jobs.now job) rows.now)) }
+    ensures { result ≡ length
+        (filter (λ path. not (fits_in (job_at jobs.now job) path)) (matched (job_at jobs.now job) rows.now)) }
 {
     let mut count = 0;
     for row in rows {
-        if jobs.matches(job, &row.path) && !fits(&row.path) {
+        if jobs.matches(job, &row.path) && !jobs.fits(job, &row.path) {
             count += 1;
         }
     }
@@ -61,22 +63,55 @@ fn sorted(mut paths: Vec<Path>) -> Result<Vec<Path>, AllocError>
     Ok(paths)
 }
 
-/// Adds the units of one path: its snapshots are pruned where the job has rules.
-fn add_units(
+/// Adds the unit that replicates a path, where the job has a destination.
+fn add_replication(
     units: &mut Vec<Unit>,
-    rules: &[RuleSpec],
+    jobs: &JobSet,
     job: u32,
     moment: Moment,
     path: &Path,
 ) -> Result<(), AllocError>
-    ensures { OnOk result (units.new.items ≡ units.old.items ++ units_at job moment rules.now path.now) }
+    ensures { OnOk result (units.new.items ≡
+        units.old.items ++ replications (destination_of (job_at jobs.now job)) job moment path.now) }
 {
-    if rules.is_empty() {
-        return Ok(());
+    if jobs.destination(job).is_some() {
+        let work = Work::Replicate(path.same()?);
+        units.push(Unit { job, moment, work })?;
     }
-    let work = Work::PruneSource(path.same()?);
-    units.push(Unit { job, moment, work })?;
     Ok(())
+}
+
+/// Adds the unit that prunes a path, where the job has rules.
+fn add_pruning(
+    units: &mut Vec<Unit>,
+    jobs: &JobSet,
+    job: u32,
+    moment: Moment,
+    path: &Path,
+) -> Result<(), AllocError>
+    ensures { OnOk result (units.new.items ≡
+        units.old.items ++ prunings (rules_of (job_at jobs.now job)) job moment path.now) }
+{
+    if !jobs.rules(job).is_empty() {
+        let work = Work::PruneSource(path.same()?);
+        units.push(Unit { job, moment, work })?;
+    }
+    Ok(())
+}
+
+/// Adds the units of one path: it is replicated before it is pruned.
+fn add_units(
+    units: &mut Vec<Unit>,
+    jobs: &JobSet,
+    job: u32,
+    moment: Moment,
+    path: &Path,
+) -> Result<(), AllocError>
+    ensures { OnOk result (units.new.items ≡
+        units.old.items ++ units_at (job_at jobs.now job) job moment path.now) }
+{
+    add_replication(units, jobs, job, moment, path)?;
+    add_pruning(units, jobs, job, moment, path)
 }
 
 /// The units of each path, in the order of the paths.
@@ -88,12 +123,11 @@ fn units_on(
     paths: &[Path],
 ) -> Result<Vec<Unit>, AllocError>
     ensures { IfOk result (λ units.
-        units.items ≡ flat_map (units_at job moment (rules_of (job_at jobs.now job))) paths.now) }
+        units.items ≡ flat_map (units_at (job_at jobs.now job) job moment) paths.now) }
 {
     let mut units = Vec::new(alloc);
-    let rules = jobs.rules(job);
     for path in paths {
-        add_units(&mut units, rules, job, moment, path)?;
+        add_units(&mut units, jobs, job, moment, path)?;
     }
     Ok(units)
 }
@@ -106,8 +140,10 @@ fn find_units(
     rows: &[SetRow],
 ) -> Result<(Outcome, Vec<Unit>), AllocError>
     ensures found { IfOk result (λ found. found.0 ≡ outcome.Scanned
-        (capped (length (filter fits (matched (job_at jobs.now unit.now.job) rows.now))))
-        (capped (length (filter (λ path. not (fits path)) (matched (job_at jobs.now unit.now.job) rows.now))))) }
+        (capped (length (filter (fits_in (job_at jobs.now unit.now.job))
+        (matched (job_at jobs.now unit.now.job) rows.now))))
+        (capped (length (filter (λ path. not (fits_in (job_at jobs.now unit.now.job) path))
+        (matched (job_at jobs.now unit.now.job) rows.now))))) }
     ensures units { IfOk result (λ found. UnitsOf jobs.now unit.now.job unit.now.moment rows.now found.1.items) }
 {
     let paths = sorted(fitting_paths(alloc, jobs, unit.job, rows)?)?;
@@ -182,7 +218,7 @@ fn scan_done<Z: Zfs>(alloc: Global, g: &Guarded<'_, Z>) -> (Outcome, Vec<Unit>)
 }
 
 /// Lists the datasets, and gives the units of each path that the job's filter matches, in byte order of
-/// paths. A path that is too long to work on gives no units, and is counted.
+/// paths. A path that is too long to work on, or has a target that is, gives no units, and is counted.
 pub fn scan<Z: Zfs>(alloc: Global, g: &mut Guarded<'_, Z>) -> (Outcome, Vec<Unit>)
     requires fresh { g.old.log.turns ≡ [] }
     requires ample { g.old.short ≡ false }

@@ -10,7 +10,7 @@ use Rattle.zr_world.specs.Answering.{appended}
 use Rattle.zr_permit.specs.declared.job.JobSet.{JobSet}
 use Rattle.zr_permit.specs.Jobs.{IsOfFile}
 use Rattle.zr_permit.specs.Runs.{Ran}
-use Rattle.zr_top.specs.Units.{IsPruning}
+use Rattle.zr_top.specs.Units.{IsDueUnit}
 use Rattle.zr_top.specs.Attempts.{Attempt, Attempted, entries, IsGood, no_totals, run_entries, tallied, tallied_all}
 use Rattle.zr_top.specs.Due.{Found, first_scans, joined, RanDue, RunUpTo, scan_of, ScanRan, ScansRan}
 
@@ -115,10 +115,10 @@ run-joined jobs all left rest units before mid now start then' totals up_to is r
 }
 
 -- the first of some units
-pub first-of : (jobs : JobSet) (unit : Unit) (rest all : List Unit) → all ≡ unit ∷ rest → All (IsPruning jobs) all → IsOfFile jobs unit
+pub first-of : (jobs : JobSet) (unit : Unit) (rest all : List Unit) → all ≡ unit ∷ rest → All (IsDueUnit jobs) all → IsOfFile jobs unit
 first-of jobs unit rest all is each =
-    let pruning : List Unit → Type 0 = All (IsPruning jobs) in
-    (All-head (IsPruning jobs) unit rest (subst pruning is each)).of_file
+    let due : List Unit → Type 0 = All (IsDueUnit jobs) in
+    (All-head (IsDueUnit jobs) unit rest (subst due is each)).of_file
 
 -- a scan is a unit of the job file
 pub scan-of-file : (jobs : JobSet) (job moment : ℕ) → job < length jobs.jobs → IsOfFile jobs (scan_of moment job)

@@ -1,21 +1,15 @@
-use Rattle.std.proofs.Common.{◌≡◌, ◌∙◌, ℕ, ◌<◌, ◌⊎◌, Bool, true, false, List, [], ◌∷◌, ◌++◌, Option, Some, None, Ok, inl, inr, refl, ap, arith, lit<, subst, sym, length}
+use Rattle.std.proofs.Common.{◌≡◌, ◌∙◌, ℕ, ◌⊎◌, true, false, List, [], ◌∷◌, ◌++◌, Option, Ok, inl, inr, refl, ap, lit<, subst, sym}
 use Rattle.std.specs.Io.KnownBytes.{append_known}
 use Rattle.std.specs.List.{Contains}
-use Rattle.std.specs.Prelude.{◌^◌, IfSome}
-use Rattle.std.proofs.lemmas.Bool.{ltb-true}
 use Rattle.zr_names.specs.declared.totals.Totals.{Totals}
-use Rattle.zr_exec.specs.Entries.{entries_of}
 use Rattle.zr_permit.specs.declared.job.JobSet.{JobSet}
-use Rattle.zr_jobfile.specs.SnapFile.{ReadsJobs}
 use Rattle.zr_top.specs.declared.status.Status.{Status}
 use Rattle.zr_top.specs.declared.status.Status.TheVariants as status
-use Rattle.zr_top.specs.Clock.{Ticks}
-use Rattle.zr_top.specs.Due.{RanDue}
-use Rattle.zr_top.specs.Records.{FirstRan, IsFrontOf, IsNext, Known, RanBytes, RanFile, RanJobs, RanOnce, Told, Unrun, Wrote}
+use Rattle.zr_top.specs.Records.{FirstRan, IsFrontOf, Known, RanBytes, RanFile, RanJobs, Told, Unrun, Wrote}
 use Rattle.zr_top.specs.Status.{code_of, is_unrun, Printed, status_of}
 use Rattle.zr_top.specs.Totals.{totals_text}
 use Rattle.zr_top.proofs.Books.{balanced}
-use Rattle.zr_top.proofs.Ending.{first_of, printed-of-runs}
+use Rattle.zr_top.proofs.Ending.{printed-of-runs}
 
 -- all that was due was attempted with the first runner, and the totals were printed
 pub ran-jobs : (jobs : JobSet) (moments : Option (List ℕ)) (before now : List Told) (totals : Totals) (wrote_before wrote : Known) (given : Status) (line : List ℕ) → FirstRan jobs moments before now (Ok totals) → line ≡ totals_text totals → Printed (status_of totals) given → Wrote given wrote_before wrote line → RanJobs jobs moments before now wrote_before wrote given

@@ -4,7 +4,7 @@ use Rattle.toml.specs.Data.{Members}
 use Rattle.zr_permit.specs.declared.job.JobSet.{JobSet}
 use Rattle.zr_jobfile.specs.declared.JobFault.{JobFault}
 use Rattle.zr_jobfile.specs.declared.JobFault.TheVariants.{TooManyBytes, NotToml, NotBuilt, NoMemory}
-use Rattle.zr_jobfile.specs.SnapFile.{IsSnapFile, IsText, ReadsJobs}
+use Rattle.zr_jobfile.specs.JobFile.{IsJobFile, IsText, ReadsJobs}
 use Rattle.zr_top.specs.declared.status.Status.{Status}
 use Rattle.zr_top.specs.declared.status.Status.TheVariants as status
 use Rattle.zr_top.specs.Status.{code_of, IsRefused, Printed, RefusedOrUnread}
@@ -20,7 +20,7 @@ no-fault bytes jobs NotToml reads other by =
     let none : None ≡ Some reads.0 = sym (by.1 reads.1.utf8) ∙ reads.1.parsed in
     cc
 no-fault bytes jobs NotBuilt reads other by =
-    let of : Members → Type 0 = λ tree. IsSnapFile tree jobs in
+    let of : Members → Type 0 = λ tree. IsJobFile tree jobs in
     by.2 jobs (subst of (sym (same-tree bytes reads.0 by.0 reads.1 by.1)) reads.2)
 no-fault bytes jobs NoMemory reads other by = other refl
 

@@ -4,7 +4,7 @@ use Rattle.zr_names.specs.Count.{Rose}
 use Rattle.zr_permit.specs.declared.job.JobSet.{JobSet}
 use Rattle.zr_permit.specs.Result.{is_child_fault}
 use Rattle.zr_jobfile.specs.declared.TheConstants.{FILE_LIMIT}
-use Rattle.zr_jobfile.specs.SnapFile.{ReadsJobs}
+use Rattle.zr_jobfile.specs.JobFile.{ReadsJobs}
 use Rattle.zr_top.specs.declared.report.TheConstants.{USAGE}
 use Rattle.zr_top.specs.declared.status.Status.{Status}
 use Rattle.zr_top.specs.Attempts.{Attempt}

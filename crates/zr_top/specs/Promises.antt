@@ -5,7 +5,7 @@ use Rattle.zr_permit.specs.declared.job.JobSet.{JobSet}
 use Rattle.zr_permit.specs.Honest.{IsHonest}
 use Rattle.zr_permit.specs.Transcript.{Transcript}
 use Rattle.zr_names.specs.declared.unit.Unit.{Unit}
-use Rattle.zr_jobfile.specs.SnapFile.{ReadsJobs}
+use Rattle.zr_jobfile.specs.JobFile.{ReadsJobs}
 use Rattle.zr_top.specs.Attempts.{Attempt, IsGood}
 use Rattle.zr_top.specs.Due.{IsDue}
 use Rattle.zr_top.specs.Records.{FirstHas, IsFrontOf, IsNext, Told}
@@ -51,7 +51,7 @@ is_finished other = true
 abbrev pub AllFinished : List Attempt → Type 0
 AllFinished attempts = All (λ (a : Attempt). is_finished a.ended ≡ true) attempts
 
--- the status where all units have finished: 4 exactly where a path was too long
+-- the status where all units have finished: 4 exactly where one ended in a conflict, or a path was too long
 abbrev pub finished_code : List Attempt → ℕ
 finished_code attempts = if some_ended is_conflict_or_too_long attempts then 4 else 0
 

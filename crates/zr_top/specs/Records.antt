@@ -10,7 +10,7 @@ use Rattle.zr_permit.specs.declared.job.JobSet.{JobSet}
 use Rattle.zr_jobfile.specs.declared.TheConstants.{FILE_LIMIT}
 use Rattle.zr_jobfile.specs.declared.JobFault.{JobFault}
 use Rattle.zr_jobfile.specs.declared.JobFault.TheVariants as fault
-use Rattle.zr_jobfile.specs.SnapFile.{ReadsJobs}
+use Rattle.zr_jobfile.specs.JobFile.{ReadsJobs}
 use Rattle.zr_top.specs.declared.status.Status.{Status}
 use Rattle.zr_top.specs.declared.status.Status.TheVariants as status
 use Rattle.zr_top.specs.Attempts.{Attempt, entries, IsBalanced, IsGood, totals_of}

@@ -6,7 +6,7 @@ use Rattle.zr_names.specs.declared.totals.Totals.{Totals}
 use Rattle.zr_permit.specs.Result.{is_child_fault, is_out_of_memory}
 use Rattle.zr_jobfile.specs.declared.JobFault.{JobFault}
 use Rattle.zr_jobfile.specs.declared.JobFault.TheVariants.{NoMemory}
-use Rattle.zr_jobfile.specs.SnapFile.{ReadsJobs}
+use Rattle.zr_jobfile.specs.JobFile.{ReadsJobs}
 use Rattle.zr_top.specs.declared.status.Status.{Status}
 use Rattle.zr_top.specs.declared.status.Status.TheVariants as status
 use Rattle.zr_top.specs.Attempts.{Attempt}

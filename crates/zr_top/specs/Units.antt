@@ -1,9 +1,17 @@
+use Rattle.std.specs.Prelude.{⊤}
 use Rattle.zr_names.specs.declared.unit.Unit.{Unit}
+use Rattle.zr_names.specs.declared.unit.Work.{Work}
+use Rattle.zr_names.specs.declared.unit.Work.TheVariants as work
 use Rattle.zr_permit.specs.declared.job.JobSet.{JobSet}
 use Rattle.zr_permit.specs.Jobs.{IsOfFile}
-use Rattle.zr_prune.specs.Pruning.{IsPruneSource}
 
--- a unit of the job file that prunes a source dataset
-pub record IsPruning (jobs : JobSet) (unit : Unit) : Type 0 where
+-- the work that scans give: a dataset is replicated, or pruned at its source
+abbrev pub IsDueWork : Work → Type 0
+IsDueWork (work.Replicate path) = ⊤
+IsDueWork (work.PruneSource path) = ⊤
+IsDueWork other = ⊥
+
+-- a unit of the job file that a scan gives
+pub record IsDueUnit (jobs : JobSet) (unit : Unit) : Type 0 where
   pub of_file : IsOfFile jobs unit
-  pub prunes : IsPruneSource unit.work
+  pub work_is : IsDueWork unit.work

@@ -2,9 +2,9 @@ ghost use Rattle.std.specs.Prelude.{◌≡◌, ◌≤◌, ◌<◌, ◌^◌, All,
 ghost use Rattle.zr_names.specs.Count.{Rose};
 ghost use Rattle.zr_top.specs.Attempts.{Attempted, no_totals};
 ghost use Rattle.zr_top.specs.Due.{FaultsRose, joined, RanDue, ScansRan};
-ghost use Rattle.zr_top.specs.Units.{IsPruning};
+ghost use Rattle.zr_top.specs.Units.{IsDueUnit};
 
-use crate::running::{run_prune, run_scan};
+use crate::running::{run_scan, run_unit};
 use std::alloc::{AllocError, Global};
 use zr_names::{Moment, NoMemory, Outcome, Rows, Totals, Unit};
 use zr_permit::JobSet;
@@ -50,7 +50,7 @@ fn scan_all<Z: Zfs>(
     z: &mut Z,
 ) -> Result<Vec<Rows<Unit>>, AllocError>
     requires { length jobs.now.jobs < 2 ^ 32 }
-    ensures units { IfOk result (λ found. All (All (IsPruning jobs.now)) found.items) }
+    ensures units { IfOk result (λ found. All (All (IsDueUnit jobs.now)) found.items) }
     ensures ran { IfOk result (λ found. ScansRan jobs.now moment (length jobs.now.jobs)
         (Z.told z.old) (Z.told z.new) tally.old.totals tally.new.totals found.items) }
     ensures unbegun { IfErr result (λ fault. z.new ≡ z.old) }
@@ -68,14 +68,14 @@ fn scan_all<Z: Zfs>(
 
 /// Runs some units in their order.
 fn run_units<Z: Zfs>(alloc: Global, jobs: &JobSet, units: Vec<Unit>, tally: &mut Tally, z: &mut Z)
-    requires { All (IsPruning jobs.now) units.items }
+    requires { All (IsDueUnit jobs.now) units.items }
     ensures ran { Attempted jobs.now units.items (Z.told z.old) (Z.told z.new)
         tally.old.totals tally.new.totals }
     ensures later { Z.faults z.old ≤ Z.faults z.new }
     ensures rose { FaultsRose tally.old.totals tally.new.totals (Z.faults z.old) (Z.faults z.new) }
 {
     for unit in units {
-        let outcome = run_prune(alloc, jobs, unit, tally.run, z);
+        let outcome = run_unit(alloc, jobs, unit, tally.run, z);
         tally.count(&outcome);
     }
 }
@@ -88,7 +88,7 @@ fn run_all<Z: Zfs>(
     tally: &mut Tally,
     z: &mut Z,
 )
-    requires { All (All (IsPruning jobs.now)) found.items }
+    requires { All (All (IsDueUnit jobs.now)) found.items }
     ensures ran { Attempted jobs.now (joined found.items) (Z.told z.old) (Z.told z.new)
         tally.old.totals tally.new.totals }
     ensures later { Z.faults z.old ≤ Z.faults z.new }

@@ -1,3 +1,5 @@
+mod pushing;
+
 use super::*;
 use std::alloc::{AllocGlobal, Global};
 use std::process::Abort;
@@ -5,7 +7,7 @@ use std::sync::Wait;
 use std::test::Fail;
 use std::thread::Threads;
 use zr_exec::{LISTING_LIMIT, Line, MemSpawn, PipeExit, RunExit, Spawn, is_well_formed};
-use zr_names::{Guid, Moment, NoMemory, Rows, Unit, read_path, read_snap, read_tag};
+use zr_names::{Bytes, Guid, Moment, NoMemory, Rows, Unit, read_path, read_snap, read_tag};
 use zr_pipe::MemSink;
 use zr_world::{Dataset, Extent, Planned, Pools, Version, VersionName};
 
@@ -73,26 +75,82 @@ fn pools_of(sets: Vec<Dataset>) -> Result<Pools, Fail> {
     })
 }
 
-/// What a call did: its status, what it printed, and the words of its children, a line each.
+/// What a call did: its status, what it printed, the words of its children, a line a call, and the pools afterwards.
 #[derive(Drop)]
 struct Ended {
     status: u8,
     printed: String,
     children: String,
+    pools: String,
+}
+
+/// Adds words, with a blank between them.
+fn push_words(text: &mut String, words: &[Bytes]) -> Result<(), Fail> {
+    for (place, word) in words.iter().enumerate() {
+        if place > 0 {
+            text.push(' ')?;
+        }
+        text.push_str(str::from_utf8(word.as_slice())?)?;
+    }
+    Ok(())
+}
+
+/// Adds the words of a call and a newline. The two ends of a pipe are one call.
+fn push_call(text: &mut String, line: &Line) -> Result<(), Fail> {
+    match line {
+        Line::Begin(_, _) => return Ok(()),
+        Line::Call(call) => push_words(text, call.words.as_slice())?,
+        Line::Pipe(piped) => {
+            push_words(text, piped.send.as_slice())?;
+            text.push_str(" | ")?;
+            push_words(text, piped.receive.as_slice())?;
+        }
+    }
+    text.push('\n')?;
+    Ok(())
 }
 
 fn children_of(alloc: Global, lines: &[Line]) -> Result<String, Fail> {
     let mut text = String::new(alloc);
     for line in lines {
-        if let Line::Call(call) = line {
-            for (place, word) in call.words.as_slice().iter().enumerate() {
-                if place > 0 {
-                    text.push(' ')?;
-                }
-                text.push_str(str::from_utf8(word.as_slice())?)?;
-            }
-            text.push('\n')?;
-        }
+        push_call(&mut text, line)?;
+    }
+    Ok(text)
+}
+
+fn push_version(alloc: Global, text: &mut String, version: &Version) -> Result<(), Fail> {
+    let (kind, name) = match &version.name {
+        VersionName::Snap(name) => ('@', name.as_bytes()),
+        VersionName::Mark(name) => ('#', name.as_bytes()),
+    };
+    let name = str::from_utf8(name)?;
+    text.push_str(format!(in alloc; "  {kind}{name} {}", version.guid.0)?.as_str())?;
+    for tag in version.tags.as_slice() {
+        text.push(' ')?;
+        text.push_str(str::from_utf8(tag.as_bytes())?)?;
+    }
+    text.push('\n')?;
+    Ok(())
+}
+
+fn push_dataset(alloc: Global, text: &mut String, set: &Dataset) -> Result<(), Fail> {
+    text.push_str(str::from_utf8(set.path.as_bytes())?)?;
+    if let Some(partial) = &set.partial {
+        text.push_str(format!(in alloc; " part of {}", partial.to.0)?.as_str())?;
+    }
+    text.push('\n')?;
+    for version in set.versions.as_slice() {
+        push_version(alloc, text, version)?;
+    }
+    Ok(())
+}
+
+/// Pools as text: a line a dataset, with the guid of what it has received a part of, and a line a version, with its guid
+/// and the tags of its holds.
+fn text_of(alloc: Global, pools: &Pools) -> Result<String, Fail> {
+    let mut text = String::new(alloc);
+    for set in pools.sets.as_slice() {
+        push_dataset(alloc, &mut text, set)?;
     }
     Ok(text)
 }
@@ -123,14 +181,12 @@ fn call<R: Abort + Threads + Wait + Sync + AllocGlobal>(
     let words = given.as_slice();
     let status = zrepl(rt, alloc, words, &mut files, &mut children, clock, &mut out);
     let printed = String::from_str(alloc, str::from_utf8(out.written())?)?;
-    let mut text = String::new(alloc);
-    for child in &children {
-        text = children_of(alloc, child.told())?;
-    }
+    let child = children.as_slice().first().ok_or("a runner")?;
     Ok(Ended {
         status,
         printed,
-        children: text,
+        children: children_of(alloc, child.told())?,
+        pools: text_of(alloc, child.pools())?,
     })
 }
 

@@ -1,4 +1,4 @@
-use Rattle.zr_jobfile.specs.SnapFile.{filter_tree}
+use Rattle.zr_jobfile.specs.Trees.{filter_tree}
 use Rattle.zr_jobfile.proofs.shape.next_pattern.Goals as goal
 
 pub returns-in-None-clause-missing : goal.returns-in-None-clause-missing

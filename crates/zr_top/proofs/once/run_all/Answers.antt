@@ -3,7 +3,7 @@ use Rattle.std.specs.List.{All}
 use Rattle.std.proofs.lemmas.List.Elements.{All-rest}
 use Rattle.zr_names.specs.declared.unit.Unit.{Unit}
 use Rattle.zr_top.specs.Attempts.{Attempted}
-use Rattle.zr_top.specs.Units.{IsPruning}
+use Rattle.zr_top.specs.Units.{IsDueUnit}
 use Rattle.zr_top.proofs.Attempting.{run-joined, run-none}
 use Rattle.zr_top.proofs.Rising.{rose-none, rose-then}
 use Rattle.zr_top.proofs.once.run_all.Goals as goal
@@ -25,7 +25,7 @@ loop-units-preserved g c =
     let ran = c.run_units.ensures in
     let Ran : List Unit → Type 0 = λ units. Attempted jobs units (told c.loop-units.z) (told c.run_units.new.z) c.loop-units.tally.totals c.run_units.new.tally.totals in
     record {
-      left = All-rest (All (IsPruning jobs)) c.in-Some.units _ _ is inv.left;
+      left = All-rest (All (IsDueUnit jobs)) c.in-Some.units _ _ is inv.left;
       ran = run-joined jobs c.args.found.items _ _ c.in-Some.units _ _ _ _ _ _ inv.ran is (subst Ran c.into_vec.ensures ran.ran);
       later = omega (arith, inv.later, ran.later);
       rose = rose-then c.args.tally.now.totals c.loop-units.tally.totals c.run_units.new.tally.totals _ (g.Z.Zfs.faults c.loop-units.z) _ inv.later ran.later inv.rose ran.rose;

@@ -1,6 +1,6 @@
 use Rattle.std.proofs.Common.{arith, rules}
 use Rattle.std.proofs.lemmas.List.Elements.{All-rest}
-use Rattle.zr_top.specs.Units.{IsPruning}
+use Rattle.zr_top.specs.Units.{IsDueUnit}
 use Rattle.zr_top.proofs.Attempting.{first-of, run-more, run-none}
 use Rattle.zr_top.proofs.Rising.{counted-rose, rose-none, rose-then}
 use Rattle.zr_top.proofs.once.run_units.Goals as goal
@@ -20,11 +20,11 @@ loop-unit-preserved g c =
     let faults = g.Z.Zfs.faults in
     let is = c.in-Some.ensures.steps.0 in
     let of_file = first-of jobs c.in-Some.unit _ _ is inv.left in
-    let ran = c.run_prune-outcome.ensures in
+    let ran = c.run_unit-outcome.ensures in
     record {
-      left = All-rest (IsPruning jobs) c.in-Some.unit _ _ is inv.left;
+      left = All-rest (IsDueUnit jobs) c.in-Some.unit _ _ is inv.left;
       ran = run-more jobs _ _ _ c.in-Some.unit _ _ _ _ _ _ _ _ inv.ran is of_file ran.ran c.count.ensures;
       later = omega (arith, inv.later, ran.later);
       rose =
-          rose-then c.args.tally.now.totals c.loop-unit.tally.totals c.count.new.self.totals _ (faults c.loop-unit.z) _ inv.later ran.later inv.rose (counted-rose c.run_prune-outcome.result c.loop-unit.tally.totals _ _ _ c.count.ensures ran.fault_rose);
+          rose-then c.args.tally.now.totals c.loop-unit.tally.totals c.count.new.self.totals _ (faults c.loop-unit.z) _ inv.later ran.later inv.rose (counted-rose c.run_unit-outcome.result c.loop-unit.tally.totals _ _ _ c.count.ensures ran.fault_rose);
     }

@@ -3,7 +3,7 @@ use Rattle.std.specs.List.{All}
 use Rattle.std.proofs.lemmas.List.Elements.{All-append, All-cons, All-nil}
 use Rattle.zr_names.specs.declared.unit.Unit.{Unit}
 use Rattle.zr_top.specs.Due.{ScansRan}
-use Rattle.zr_top.specs.Units.{IsPruning}
+use Rattle.zr_top.specs.Units.{IsDueUnit}
 use Rattle.zr_top.proofs.Attempting.{scanned-more}
 use Rattle.zr_top.proofs.Rising.{counted-rose, rose-then}
 use Rattle.zr_top.proofs.once.scan_all.Goals as goal
@@ -20,12 +20,12 @@ loop-job-preserved g c =
     let old = c.loop-job.found.items in
     let now = c.push_reserved.new.self.items in
     let found_is : now ≡ old ++ units ∷ [] = c.push_reserved.ensures.items ∙ ap (λ us. old ++ us ∷ []) c.from_vec.ensures in
-    let Prunes : List (List Unit) → Type 0 = All (All (IsPruning jobs)) in
+    let Due : List (List Unit) → Type 0 = All (All (IsDueUnit jobs)) in
     let Ran : List (List Unit) → Type 0 = λ found. ScansRan jobs c.args.moment (c.loop-job.job + 1) (told c.args.z.now) (told c.run_scan-outcome.new.z) c.args.tally.now.totals c.count.new.self.totals found in
     record {
       len = search rules;
       room = search rules;
-      found = subst Prunes (sym found_is) (All-append (All (IsPruning jobs)) old (units ∷ []) inv.found (All-cons (All (IsPruning jobs)) units [] scan.units (All-nil (All (IsPruning jobs)))));
+      found = subst Due (sym found_is) (All-append (All (IsDueUnit jobs)) old (units ∷ []) inv.found (All-cons (All (IsDueUnit jobs)) units [] scan.units (All-nil (All (IsDueUnit jobs)))));
       ran = subst Ran (sym found_is) (scanned-more jobs c.args.moment c.loop-job.job _ _ _ _ _ _ _ _ old units inside inv.ran scan.ran c.count.ensures);
       later = omega (arith, inv.later, scan.later);
       rose =

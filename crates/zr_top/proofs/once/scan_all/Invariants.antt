@@ -2,7 +2,7 @@ use Rattle.std.proofs.Common.{◌≡◌, ◌≤◌, length}
 use Rattle.std.specs.List.{All}
 use Rattle.std.specs.Prelude.{vec_capacity, vec_len}
 use Rattle.zr_top.specs.Due.{FaultsRose, ScansRan}
-use Rattle.zr_top.specs.Units.{IsPruning}
+use Rattle.zr_top.specs.Units.{IsDueUnit}
 use Rattle.zr_top.proofs.once.scan_all.Given as goal
 
 -- the scans before this job were run, and there is room for what the others find
@@ -10,7 +10,7 @@ abbrev pub invariant-loop-job : goal.invariant-loop-job
 invariant-loop-job g l = record {
   len : vec_len l.found ≡ l.job;
   room : length l.jobs.jobs ≤ vec_capacity l.found;
-  found : All (All (IsPruning l.jobs)) l.found.items;
+  found : All (All (IsDueUnit l.jobs)) l.found.items;
   ran : ScansRan l.jobs l.moment l.job (g.Z.Zfs.told l.fn.z) (g.Z.Zfs.told l.z) l.fn.tally.totals l.tally.totals l.found.items;
   later : g.Z.Zfs.faults l.fn.z ≤ g.Z.Zfs.faults l.z;
   rose : FaultsRose l.fn.tally.totals l.tally.totals (g.Z.Zfs.faults l.fn.z) (g.Z.Zfs.faults l.z);

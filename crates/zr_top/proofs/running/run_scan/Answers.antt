@@ -3,7 +3,7 @@ use Rattle.zr_names.specs.declared.unit.Unit.{Unit}
 use Rattle.zr_permit.specs.declared.job.JobSet.{JobSet}
 use Rattle.zr_permit.specs.Transcript.{Legal}
 use Rattle.zr_top.specs.Due.{scan_of, ScanRan}
-use Rattle.zr_top.proofs.Scanned.{scan-pruning, scan-ran}
+use Rattle.zr_top.proofs.Scanned.{scan-due, scan-ran}
 use Rattle.zr_top.proofs.running.run_scan.Goals as goal
 
 pub returns-in-Ok-clause-ran : goal.returns-in-Ok-clause-ran
@@ -25,4 +25,4 @@ returns-in-Ok-clause-ran g c =
 pub returns-in-Ok-clause-units : goal.returns-in-Ok-clause-units
 returns-in-Ok-clause-units g c =
     let unit = scan_of c.args.moment c.args.job in
-    scan-pruning c.args.jobs.now _ unit _ _ _ _ c.in-Ok.ensures.jobs c.in-Ok.ensures.unit c.requires c.scan-found.ensures.units
+    scan-due c.args.jobs.now _ unit _ _ _ _ c.in-Ok.ensures.jobs c.in-Ok.ensures.unit c.requires c.scan-found.ensures.units

@@ -1,0 +1,59 @@
+-- How a job file is read.
+use Rattle.std.specs.Prelude.{⊤, ◌≡◌, ◌⊎◌, ℕ, ◌<◌, ◌≤◌, List, Some, None, Result, Ok, Err, length, IsUtf8}
+use Rattle.toml.specs.Data.{Members}
+use Rattle.toml.specs.Parse.{parse_document}
+use Rattle.zr_filter.specs.declared.entry.Entry.{Entry}
+use Rattle.zr_permit.specs.declared.job.JobSet.{JobSet}
+use Rattle.zr_jobfile.specs.SnapFile.{IsPattern, IsSnapFile}
+use Rattle.zr_jobfile.specs.PushFile.{ArePaired, IsPushFile, pushing, PushJob, SinkJob}
+use Rattle.zr_jobfile.specs.declared.TheConstants.{FILE_LIMIT}
+use Rattle.zr_jobfile.specs.declared.JobFault.{JobFault}
+use Rattle.zr_jobfile.specs.declared.JobFault.TheVariants.{TooManyBytes, NotToml, NotBuilt, NoMemory}
+
+-- the tree is that of a job file, and these are its jobs
+abbrev pub IsJobFile : Members → JobSet → Type 0
+IsJobFile tree jobs = IsSnapFile tree jobs ⊎ IsPushFile tree jobs
+
+-- what a text is answered as a name of some kind: the name exactly where it is one
+abbrev pub Names : (List ℕ → Type 0) → List ℕ → Result (List ℕ) JobFault → Type 0
+Names IsGood text (Ok name) = (name ≡ text) × IsGood text
+Names IsGood text (Err NotBuilt) = ¬ IsGood text
+Names IsGood text (Err NoMemory) = ⊤
+Names IsGood text (Err other) = ⊥
+
+-- what a text is answered as a pattern: the entry exactly where it is one
+abbrev pub Patterns : List ℕ → Result Entry JobFault → Type 0
+Patterns text (Ok entry) = IsPattern text entry
+Patterns text (Err NotBuilt) = (entry : Entry) → ¬ IsPattern text entry
+Patterns text (Err NoMemory) = ⊤
+Patterns text (Err other) = ⊥
+
+-- what a push job and a sink job are built to: their jobs exactly where the two go together
+abbrev pub BuildsPair : PushJob → SinkJob → Result JobSet JobFault → Type 0
+BuildsPair push sink (Ok jobs) = ArePaired push sink × (jobs ≡ pushing push sink)
+BuildsPair push sink (Err NotBuilt) = ¬ ArePaired push sink
+BuildsPair push sink (Err NoMemory) = ⊤
+BuildsPair push sink (Err other) = ⊥
+
+-- what a tree is built to: its jobs exactly where it is that of a file of this kind
+abbrev pub Builds : (Members → JobSet → Type 0) → Members → Result JobSet JobFault → Type 0
+Builds IsFile tree (Ok jobs) = IsFile tree jobs
+Builds IsFile tree (Err NotBuilt) = (jobs : JobSet) → ¬ IsFile tree jobs
+Builds IsFile tree (Err NoMemory) = ⊤
+Builds IsFile tree (Err other) = ⊥
+
+-- the bytes are the TOML text of a tree
+pub record IsText (bytes : List ℕ) (tree : Members) : Type 0 where
+  pub short : length bytes ≤ FILE_LIMIT
+  pub utf8 : IsUtf8 bytes
+  pub parsed : parse_document bytes ≡ Some tree
+
+-- how the bytes of a job file are answered; the cases exclude each other, so each holds exactly there
+abbrev pub ReadsJobs : List ℕ → Result JobSet JobFault → Type 0
+ReadsJobs bytes (Ok jobs) = (tree : Members) × IsText bytes tree × IsJobFile tree jobs
+ReadsJobs bytes (Err TooManyBytes) = FILE_LIMIT < length bytes
+ReadsJobs bytes (Err NotToml) =
+    (length bytes ≤ FILE_LIMIT) × (IsUtf8 bytes → parse_document bytes ≡ None)
+ReadsJobs bytes (Err NotBuilt) =
+    (tree : Members) × IsText bytes tree × ((jobs : JobSet) → ¬ IsJobFile tree jobs)
+ReadsJobs bytes (Err NoMemory) = length bytes ≤ FILE_LIMIT

@@ -1,0 +1,14 @@
+use Rattle.zr_known.proofs.Knowing.{destroy-tells, failed-tells, garbled-tells, short-tells}
+use Rattle.zr_known.proofs.laws.what_was_not_done_tells_nothing.Goals as goal
+
+pub returns-clause-failed : goal.returns-clause-failed
+returns-clause-failed c = failed-tells
+
+pub returns-clause-garbled : goal.returns-clause-garbled
+returns-clause-garbled c = garbled-tells
+
+pub returns-clause-short : goal.returns-clause-short
+returns-clause-short c = short-tells
+
+pub returns-clause-destroy : goal.returns-clause-destroy
+returns-clause-destroy c = destroy-tells

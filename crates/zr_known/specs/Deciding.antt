@@ -1,0 +1,35 @@
+use Rattle.std.specs.Prelude.{◌≡◌, ◌≢◌, ◌||◌, ◌⊎◌, ℕ, Bool, true, false, List, Option, Some}
+use Rattle.std.specs.Option.{option_map_or}
+use Rattle.zr_names.specs.Marks.{cursor_text}
+use Rattle.zr_names.specs.declared.unit.Guid.{Guid}
+use Rattle.zr_world.specs.declared.version.VersionName.{VersionName}
+use Rattle.zr_world.specs.declared.version.VersionRow.{VersionRow}
+use Rattle.zr_plan.specs.Plan.{is_snap_of, is_tentative_of}
+use Rattle.zr_known.specs.declared.known.Known.{Known}
+use Rattle.zr_known.specs.declared.known.Pair.{Pair}
+use Rattle.zr_known.specs.Known.{source_row}
+use Rattle.zr_known.specs.Replication.{HoldsKnown, IsListed, IsSettled}
+
+-- a source snapshot is listed, and its holds are known
+pub record ListsHolds (known : Known) (name : List ℕ) : Type 0 where
+  pub row : VersionRow
+  pub listed : IsListed known.source name row
+  pub holds : HoldsKnown row known.source_holds name
+
+-- the target's newest snapshot has its cursor, which is not what goes, and its last-received hold
+abbrev pub IsSettledBeside : Pair → Known → Option (List ℕ) → Type 0
+IsSettledBeside pair known goes =
+    (last : VersionRow) × (name : List ℕ) × IsSettled pair known last name
+    × (goes ≢ Some (cursor_text last.guid.0 pair.job))
+
+-- the cursor of a guid may be made from a version: it is known, as a snapshot with the guid or as the job's tentative
+-- cursor of it
+pub record MakesCursor (pair : Pair) (known : Known) (guid : Guid) (version : VersionName) : Type 0 where
+  pub row : VersionRow
+  pub found : source_row version known ≡ Some row
+  pub of_guid : (is_snap_of guid row ≡ true) ⊎ (is_tentative_of pair.job guid row ≡ true)
+
+-- the same as a test
+abbrev pub makes_cursor : Pair → Known → Guid → VersionName → Bool
+makes_cursor pair known guid version =
+    option_map_or (λ row. is_snap_of guid row || is_tentative_of pair.job guid row) (source_row version known) false

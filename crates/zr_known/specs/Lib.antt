@@ -1,0 +1,4 @@
+pub mod Deciding
+pub mod Known
+pub mod Replication
+pub mod Straight

@@ -1,0 +1,2 @@
+mod knowing;
+mod turns;

@@ -1,5 +1,0 @@
-use Rattle.zr_permit.proofs.Knowing.{one-transfer}
-use Rattle.zr_permit.proofs.laws.at_most_one_transfer_is_allowed.Goals as goal
-
-pub returns : goal.returns
-returns c = one-transfer

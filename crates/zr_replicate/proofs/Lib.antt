@@ -1,0 +1,10 @@
+pub mod Advancing
+pub mod Apart
+pub mod Later
+pub mod Listed
+pub mod Lists
+pub mod Marking
+pub mod Planning
+pub mod Sending
+pub mod Straight
+pub mod Turning

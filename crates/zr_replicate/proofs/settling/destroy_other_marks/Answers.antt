@@ -1,0 +1,27 @@
+use Rattle.std.proofs.Common.{◌∙◌, ap}
+use Rattle.zr_known.specs.declared.known.Known.{Known}
+use Rattle.zr_replicate.proofs.Lists.{match-some}
+use Rattle.zr_replicate.proofs.Marking.{destroyed-safe, fewer-marks, marks-again, may-destroy}
+use Rattle.zr_replicate.proofs.Turning.{went-on}
+use Rattle.zr_replicate.proofs.settling.destroy_other_marks.Goals as goal
+
+pub destroy_mark-requires-clause-may : goal.destroy_mark-requires-clause-may
+destroy_mark-requires-clause-may g c =
+    may-destroy c.args.pair.now c.loop-name.known c.args.newest.now c.in-Ok-Some.name c.loop-name.invariant.safe (match-some _ _ c.in-Ok-Some.field-0 c.in-Ok-Some.name c.in-Ok-Some.field-0-is c.in-Ok-Some.ensures)
+
+pub loop-name-smaller : goal.loop-name-smaller
+loop-name-smaller g c =
+    fewer-marks c.in-Ok-Some.name _ _ (match-some _ _ c.in-Ok-Some.field-0 c.in-Ok-Some.name c.in-Ok-Some.field-0-is c.in-Ok-Some.ensures).is_known (ap (λ (k : Known). k.marks) c.in_ok-destroy_mark-in-Ok-Some.ensures.known)
+
+pub loop-name-preserved : goal.loop-name-preserved
+loop-name-preserved g c =
+    let inv = c.loop-name.invariant in
+    let did = c.in_ok-destroy_mark-in-Ok-Some.ensures in
+    record {
+      went = went-on _ _ _ inv.went did.went;
+      at_work = did.stage.at_work;
+      follows = λ base records. did.stage.follows base (inv.follows base records);
+      safe = destroyed-safe c.args.pair.now c.loop-name.known c.destroy_mark.new.known c.args.newest.now c.in-Ok-Some.name inv.safe (match-some _ _ c.in-Ok-Some.field-0 c.in-Ok-Some.name c.in-Ok-Some.field-0-is c.in-Ok-Some.ensures) did.known;
+      only = marks-again c.args.known.now c.loop-name.known c.destroy_mark.new.known _ inv.only did.known;
+      runner = did.runner ∙ inv.runner;
+    }

@@ -1,0 +1,24 @@
+use Rattle.std.proofs.Common.{◌≡◌}
+use Rattle.zr_known.specs.Replication.{plan_known}
+use Rattle.zr_replicate.specs.Stepping.{IsAtRest, SameListings, step_count}
+use Rattle.zr_replicate.specs.Working.{AtWork, Follows, sight, Went}
+use Rattle.zr_replicate.proofs.stepping.all_steps.Given as goal
+
+-- there is nothing to settle, and what was listed is as it was
+abbrev pub invariant-loop-transfer : goal.invariant-loop-transfer
+invariant-loop-transfer g l = record {
+  went :
+      Went (sight l.fn.g.log l.fn.g.short (g.Z.Zfs.told l.fn.g.z.now) (g.Z.Zfs.faults l.fn.g.z.now))
+      (sight l.g.log l.g.short (g.Z.Zfs.told l.g.z.now) (g.Z.Zfs.faults l.g.z.now));
+  at_work : AtWork l.pair l.known (sight l.g.log l.g.short (g.Z.Zfs.told l.g.z.now) (g.Z.Zfs.faults l.g.z.now));
+  follows :
+      Follows (sight l.fn.g.log l.fn.g.short (g.Z.Zfs.told l.fn.g.z.now) (g.Z.Zfs.faults l.fn.g.z.now))
+      (sight l.g.log l.g.short (g.Z.Zfs.told l.g.z.now) (g.Z.Zfs.faults l.g.z.now));
+  rests : IsAtRest l.pair l.known;
+  same : SameListings l.fn.known l.known;
+  runner : l.g.z.ghost_name ≡ l.fn.g.z.ghost_name;
+}
+
+-- the steps that are planned
+abbrev pub decreases-loop-transfer : goal.decreases-loop-transfer
+decreases-loop-transfer g l = step_count (plan_known l.pair l.known)

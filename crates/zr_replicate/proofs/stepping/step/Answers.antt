@@ -1,0 +1,45 @@
+use Rattle.std.proofs.Common.{sym, subst}
+use Rattle.zr_world.specs.declared.version.VersionName.{VersionName}
+use Rattle.zr_known.specs.Replication.{MayHoldStep}
+use Rattle.zr_replicate.specs.declared.settling.Newest.{Newest}
+use Rattle.zr_replicate.specs.Settling.{IsAlone, IsSafe, MaySettle}
+use Rattle.zr_replicate.specs.Stepping.{newest_by}
+use Rattle.zr_replicate.proofs.Advancing.{may-hold, may-settle, same-listings, step-rests, steps-fall}
+use Rattle.zr_replicate.proofs.Lists.{on-both, on-ok}
+use Rattle.zr_replicate.proofs.stepping.step.Goals as goal
+
+pub hold_step-requires-clause-may : goal.hold_step-requires-clause-may
+hold_step-requires-clause-may g c =
+    subst (λ (newest : Newest). MayHoldStep c.args.known.now newest.name) (sym c.in-Ok.ensures.newest)
+    (may-hold c.args.pair.now c.args.known.now c.args.transfer c.requires.ready c.requires.next)
+
+pub settle-requires-clause-may : goal.settle-requires-clause-may
+settle-requires-clause-may g c =
+    let pair = c.args.pair.now in
+    let sent = c.send.new.known in
+    let transfer = c.args.transfer in
+    let may =
+    may-settle pair c.args.known.now c.hold_step.new.known sent transfer _ c.requires.ready c.requires.next c.in_ok-hold_step.ensures.known c.in_ok-send.ensures.known in
+    subst (λ (newest : Newest). MaySettle pair sent newest c.in-Ok.version) (sym c.in-Ok.ensures.newest)
+    (subst (λ (version : VersionName). MaySettle pair sent (newest_by transfer) version) (sym c.in-Ok.ensures.version) may)
+
+pub returns-clause-fewer : goal.returns-clause-fewer
+returns-clause-fewer g c =
+    let pair = c.args.pair.now in
+    let known = c.args.known.now in
+    let now = c.settle.new.known in
+    let transfer = c.args.transfer in
+    let result = c.settle.result in
+    let safe_of : Newest → Type 0 = λ newest. IsSafe pair now newest in
+    let alone_of : Newest → Type 0 = λ newest. IsAlone pair now newest in
+    let holds = c.in_ok-hold_step.ensures.known in
+    let arrived = c.in_ok-send.ensures.known in
+    on-ok _ _ result
+    (λ all rest.
+    let only = all.1.1 in
+    let safe = subst safe_of c.in-Ok.ensures.newest all.0 in
+    let alone = subst alone_of c.in-Ok.ensures.newest all.1.0 in
+    steps-fall pair known now transfer rest c.requires.next
+    (step-rests pair known c.hold_step.new.known c.send.new.known now transfer _ holds arrived only c.requires.ready safe alone)
+    (same-listings pair known c.hold_step.new.known c.send.new.known now transfer _ holds arrived only).source)
+    (on-both _ _ result c.settle.ensures.safe (on-both _ _ result c.settle.ensures.alone c.settle.ensures.only))

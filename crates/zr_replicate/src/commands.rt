@@ -1,0 +1,82 @@
+//! The commands of a replication unit on its pair.
+
+ghost use Rattle.std.specs.Prelude.{◌≡◌, IfOk};
+ghost use Rattle.zr_names.specs.declared.marks.TagKind.TheVariants.{Last, Step};
+ghost use Rattle.zr_world.specs.declared.command.Cmd.TheVariants as cmd;
+
+use std::alloc::AllocError;
+use zr_known::Pair;
+use zr_names::{MarkName, Path, Same, SnapName, TagKind};
+use zr_world::{Cmd, VersionName};
+
+pub(crate) fn versions(path: &Path) -> Result<Cmd, AllocError>
+    ensures { IfOk result (λ command. command ≡ cmd.Versions path.now) }
+{
+    Ok(Cmd::Versions(path.same()?))
+}
+
+pub(crate) fn holds(path: &Path, name: &SnapName) -> Result<Cmd, AllocError>
+    ensures { IfOk result (λ command. command ≡ cmd.Holds path.now name.now) }
+{
+    Ok(Cmd::Holds(path.same()?, name.same()?))
+}
+
+pub(crate) fn step_hold(pair: &Pair, name: &SnapName) -> Result<Cmd, AllocError>
+    ensures { IfOk result (λ command. command ≡ cmd.Hold Step pair.now.job pair.now.source name.now) }
+{
+    Ok(Cmd::Hold(
+        TagKind::Step,
+        pair.job.same()?,
+        pair.source.same()?,
+        name.same()?,
+    ))
+}
+
+pub(crate) fn last_hold(pair: &Pair, name: &SnapName) -> Result<Cmd, AllocError>
+    ensures { IfOk result (λ command. command ≡ cmd.Hold Last pair.now.job pair.now.target name.now) }
+{
+    Ok(Cmd::Hold(
+        TagKind::Last,
+        pair.job.same()?,
+        pair.target.same()?,
+        name.same()?,
+    ))
+}
+
+pub(crate) fn step_release(pair: &Pair, name: &SnapName) -> Result<Cmd, AllocError>
+    ensures { IfOk result (λ command. command ≡ cmd.Release Step pair.now.job pair.now.source name.now) }
+{
+    Ok(Cmd::Release(
+        TagKind::Step,
+        pair.job.same()?,
+        pair.source.same()?,
+        name.same()?,
+    ))
+}
+
+pub(crate) fn last_release(pair: &Pair, name: &SnapName) -> Result<Cmd, AllocError>
+    ensures { IfOk result (λ command. command ≡ cmd.Release Last pair.now.job pair.now.target name.now) }
+{
+    Ok(Cmd::Release(
+        TagKind::Last,
+        pair.job.same()?,
+        pair.target.same()?,
+        name.same()?,
+    ))
+}
+
+pub(crate) fn bookmark(
+    pair: &Pair,
+    version: &VersionName,
+    name: &MarkName,
+) -> Result<Cmd, AllocError>
+    ensures { IfOk result (λ command. command ≡ cmd.Bookmark pair.now.source version.now name.now) }
+{
+    Ok(Cmd::Bookmark(pair.source.same()?, version.same()?, name.same()?))
+}
+
+pub(crate) fn destroy_mark(pair: &Pair, name: &MarkName) -> Result<Cmd, AllocError>
+    ensures { IfOk result (λ command. command ≡ cmd.DestroyMark pair.now.source name.now) }
+{
+    Ok(Cmd::DestroyMark(pair.source.same()?, name.same()?))
+}

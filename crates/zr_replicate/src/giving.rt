@@ -1,0 +1,81 @@
+ghost use Rattle.std.specs.Prelude.{◌≡◌, ◌++◌, ◌∷◌, [], OnErr, OnOk, true};
+ghost use Rattle.zr_known.specs.Known.{told_by};
+ghost use Rattle.zr_known.specs.Replication.{MayGive};
+ghost use Rattle.zr_replicate.specs.Working.{AtWork, HasTold, is_change, Learnt, sight, Stage, Went};
+ghost use Rattle.zr_world.specs.declared.command.Answer.TheVariants.{Done};
+ghost use Rattle.zr_world.specs.declared.command.Reply.TheVariants as reply;
+
+use std::alloc::Global;
+use zr_known::{Known, Pair};
+use zr_names::{NoMemory, Outcome};
+use zr_permit::{Guarded, Told};
+use zr_world::{Cmd, Zfs};
+
+/// Keeps what the last turn told.
+fn learn<Z: Zfs>(
+    alloc: Global,
+    g: &Guarded<'_, Z>,
+    pair: &Pair,
+    known: &mut Known,
+) -> Result<(), NoMemory>
+    ensures ok { OnOk result (Learnt pair.now g.now.log.turns known.old known.new) }
+    ensures err { OnErr result (known.new ≡ known.old) }
+{
+    match g.log.turns().last() {
+        Some((cmd, answer)) => known.tell(alloc, pair, cmd, answer),
+        None => Ok(()),
+    }
+}
+
+/// Gives a command that the unit may give, and keeps what it told. Where it was not done, the unit has ended.
+pub(crate) fn give<Z: Zfs>(
+    alloc: Global,
+    g: &mut Guarded<'_, Z>,
+    pair: &Pair,
+    known: &mut Known,
+    cmd: Cmd,
+) -> Result<(), Outcome>
+    requires at_work { AtWork pair.now known.old
+        (sight g.old.log g.old.short (Z.told g.old.z.now) (Z.faults g.old.z.now)) }
+    requires may { MayGive pair.now known.old cmd }
+    ensures went { Went (sight g.old.log g.old.short (Z.told g.old.z.now) (Z.faults g.old.z.now))
+        (sight g.new.log g.new.short (Z.told g.new.z.now) (Z.faults g.new.z.now)) }
+    ensures stage { Stage pair.now (sight g.old.log g.old.short (Z.told g.old.z.now) (Z.faults g.old.z.now))
+        (sight g.new.log g.new.short (Z.told g.new.z.now) (Z.faults g.new.z.now)) known.new result }
+    ensures told { OnOk result (HasTold pair.now cmd
+        (sight g.old.log g.old.short (Z.told g.old.z.now) (Z.faults g.old.z.now))
+        (sight g.new.log g.new.short (Z.told g.new.z.now) (Z.faults g.new.z.now)) known.old known.new) }
+    ensures runner { g.new.z.ghost_name ≡ g.old.z.ghost_name }
+{
+    match g.run(cmd) {
+        Told::Done => match learn(alloc, g, pair, known) {
+            Ok(()) => Ok(()),
+            Err(_) => Err(g.out_of_memory()),
+        },
+        Told::Failed => Err(g.ended(Told::Failed)),
+        Told::Garbled(line) => Err(g.ended(Told::Garbled(line))),
+        Told::NoMemory => Err(Outcome::NoMemory),
+    }
+}
+
+/// Gives a command that changes something, and keeps what it told.
+pub(crate) fn change<Z: Zfs>(
+    alloc: Global,
+    g: &mut Guarded<'_, Z>,
+    pair: &Pair,
+    known: &mut Known,
+    cmd: Cmd,
+) -> Result<(), Outcome>
+    requires at_work { AtWork pair.now known.old
+        (sight g.old.log g.old.short (Z.told g.old.z.now) (Z.faults g.old.z.now)) }
+    requires may { MayGive pair.now known.old cmd }
+    requires changes { is_change cmd ≡ true }
+    ensures went { Went (sight g.old.log g.old.short (Z.told g.old.z.now) (Z.faults g.old.z.now))
+        (sight g.new.log g.new.short (Z.told g.new.z.now) (Z.faults g.new.z.now)) }
+    ensures stage { Stage pair.now (sight g.old.log g.old.short (Z.told g.old.z.now) (Z.faults g.old.z.now))
+        (sight g.new.log g.new.short (Z.told g.new.z.now) (Z.faults g.new.z.now)) known.new result }
+    ensures known { OnOk result (known.new ≡ told_by pair.now cmd (Done reply.Nothing) known.old) }
+    ensures runner { g.new.z.ghost_name ≡ g.old.z.ghost_name }
+{
+    give(alloc, g, pair, known, cmd)
+}

@@ -1,0 +1,166 @@
+//! The unit of work that replicates a dataset to its target.
+#![tactic(auto)]
+
+ghost use Rattle.std.specs.Prelude.{◌≡◌, ◌≢◌, ◌≤◌, [], IfOk, List, OnOk, Option, Some, false, true, count_by};
+ghost use Rattle.zr_names.specs.Count.{Rose};
+ghost use Rattle.zr_permit.specs.Jobs.{IsOfFile};
+ghost use Rattle.zr_known.specs.Known.{nothing_known};
+ghost use Rattle.zr_known.specs.Replication.{plan_known};
+ghost use Rattle.zr_permit.specs.Result.{capped, is_child_fault, is_done_transfer, is_out_of_memory, ResultOf};
+ghost use Rattle.zr_known.specs.Straight.{has_listed, IsFinished, is_straight};
+ghost use Rattle.zr_permit.specs.Transcript.{Turn};
+ghost use Rattle.zr_permit.specs.Turned.{Records, RecordsUnit};
+ghost use Rattle.zr_plan.specs.declared.target.Planned.TheVariants.{UpToDate};
+ghost use Rattle.zr_replicate.specs.Listing.{HasListedAll, OnlyLists};
+ghost use Rattle.zr_replicate.specs.Replicating.{either_of, finished_with, IsPairOf, IsReplicate};
+ghost use Rattle.zr_replicate.specs.Stepping.{IsAtRest, SameListings};
+ghost use Rattle.zr_replicate.specs.Working.{AtWork, HasEnded, sight, Stage, Went};
+ghost use Rattle.zr_world.specs.declared.command.Entry.{Entry};
+
+use listing::list_everything;
+use std::alloc::Global;
+use stepping::bring_up_to_date;
+use zr_known::{Known, NOT_STRAIGHT, Pair};
+use zr_names::{NoMemory, Outcome, Work};
+use zr_permit::Guarded;
+use zr_world::{Answer, Cmd, Zfs};
+
+mod commands;
+mod giving;
+mod listing;
+mod settling;
+mod stages;
+mod stepping;
+
+/// What the unit replicates.
+fn own_pair<Z: Zfs>(alloc: Global, g: &Guarded<'_, Z>) -> Result<Pair, NoMemory>
+    requires of_file { IsOfFile g.now.log.jobs g.now.log.unit }
+    requires kind { IsReplicate g.now.log.unit.work }
+    ensures { IfOk result (IsPairOf g.now.log.jobs g.now.log.unit) }
+{
+    match &g.unit().work {
+        Work::Replicate(path) => g.jobs().unit_pair(alloc, g.unit(), path),
+        _ => unreachable!(),
+    }
+}
+
+fn is_done_transfer(cmd: &Cmd, answer: &Answer) -> bool
+    ensures { result ≡ is_done_transfer cmd.now answer.now }
+{
+    matches!((cmd, answer), (Cmd::Transfer(_), Answer::Done(_)))
+}
+
+/// How many transfers were done.
+fn done_transfers(turns: &[(Cmd, Answer)]) -> usize
+    ensures { result ≡ count_by (λ (turn : Turn). is_done_transfer turn.0 turn.1) turns.now }
+{
+    let mut count = 0;
+    for (cmd, answer) in turns {
+        if is_done_transfer(cmd, answer) {
+            count += 1;
+        }
+    }
+    count
+}
+
+/// How a unit ends that has done so many transfers.
+fn finished_with(steps: usize) -> Outcome
+    ensures { result ≡ finished_with (capped steps) }
+{
+    let steps = u32::try_from(steps).unwrap_or(u32::MAX);
+    if steps == 0 {
+        Outcome::UpToDate
+    } else {
+        Outcome::Replicated(steps)
+    }
+}
+
+/// How a unit ends whose target has what the source has.
+fn finish<Z: Zfs>(g: &Guarded<'_, Z>, pair: &Pair, known: &Known) -> Outcome
+    requires at_work { AtWork pair.now known.now
+        (sight g.now.log g.now.short (Z.told g.now.z.now) (Z.faults g.now.z.now)) }
+    requires finished { IsFinished pair.now known.now }
+    ensures result { ResultOf g.now.log.jobs g.now.log.unit g.now.log.turns result }
+    ensures no_fault { is_child_fault result ≡ false }
+    ensures memory { is_out_of_memory result ≡ false }
+{
+    let _ = pair;
+    let _ = known;
+    finished_with(done_transfers(g.log.turns()))
+}
+
+/// How a unit ends that has listed everything, and found what is not straight.
+fn refuse<Z: Zfs>(g: &Guarded<'_, Z>, pair: &Pair, known: &Known) -> Outcome
+    requires at_work { AtWork pair.now known.now
+        (sight g.now.log g.now.short (Z.told g.now.z.now) (Z.faults g.now.z.now)) }
+    requires lists { OnlyLists g.now.log.turns }
+    requires listed { has_listed pair.now known.now ≡ true }
+    requires crooked { is_straight pair.now known.now ≡ false }
+    ensures result { ResultOf g.now.log.jobs g.now.log.unit g.now.log.turns result }
+    ensures no_fault { is_child_fault result ≡ false }
+    ensures memory { is_out_of_memory result ≡ false }
+{
+    let _ = g;
+    let _ = pair;
+    let _ = known;
+    Outcome::Conflict(NOT_STRAIGHT)
+}
+
+/// The outcome, whether or not the unit ended early.
+fn either_of(ended: Result<Outcome, Outcome>) -> Outcome
+    ensures { result ≡ either_of ended }
+{
+    match ended {
+        Ok(outcome) | Err(outcome) => outcome,
+    }
+}
+
+/// Replicates a pair. Nothing is changed where it is not straight.
+fn replicate_pair<Z: Zfs>(
+    alloc: Global,
+    g: &mut Guarded<'_, Z>,
+    pair: &Pair,
+    known: &mut Known,
+) -> Result<Outcome, Outcome>
+    requires at_work { AtWork pair.now known.old
+        (sight g.old.log g.old.short (Z.told g.old.z.now) (Z.faults g.old.z.now)) }
+    requires fresh { g.old.log.turns ≡ [] }
+    requires nothing { known.old ≡ nothing_known }
+    ensures went { Went (sight g.old.log g.old.short (Z.told g.old.z.now) (Z.faults g.old.z.now))
+        (sight g.new.log g.new.short (Z.told g.new.z.now) (Z.faults g.new.z.now)) }
+    ensures ended { HasEnded (sight g.old.log g.old.short (Z.told g.old.z.now) (Z.faults g.old.z.now))
+        (sight g.new.log g.new.short (Z.told g.new.z.now) (Z.faults g.new.z.now)) (either_of result) }
+    ensures runner { g.new.z.ghost_name ≡ g.old.z.ghost_name }
+{
+    list_everything(alloc, g, pair, known)?;
+    if !known.is_straight(pair) {
+        return Ok(refuse(g, pair, known));
+    }
+    bring_up_to_date(alloc, g, pair, known)?;
+    Ok(finish(g, pair, known))
+}
+
+/// Replicates the unit's dataset to its target: lists both, holds each snapshot that is to be sent, sends it in full or
+/// from the cursor of the target's newest snapshot, and settles it, until the target has what the source has (zrepl's
+/// documentation, "Replication"). What is not straight is left as it is, with conflict 20.
+pub fn replicate<Z: Zfs>(alloc: Global, g: &mut Guarded<'_, Z>) -> Outcome
+    requires fresh { g.old.log.turns ≡ [] }
+    requires ample { g.old.short ≡ false }
+    requires of_file { IsOfFile g.old.log.jobs g.old.log.unit }
+    requires kind { IsReplicate g.old.log.unit.work }
+    ensures jobs { g.new.log.jobs ≡ g.old.log.jobs }
+    ensures unit { g.new.log.unit ≡ g.old.log.unit }
+    ensures result { ResultOf g.old.log.jobs g.old.log.unit g.new.log.turns result }
+    ensures later { Z.faults g.old.z.now ≤ Z.faults g.new.z.now }
+    ensures fault_rose { is_child_fault result ≡ true →
+        Rose (Z.faults g.old.z.now) (Z.faults g.new.z.now) }
+    ensures records { (base : Option (List Entry)) → Records base (Z.told g.old.z.now) [] →
+        RecordsUnit base (Z.told g.new.z.now) g.old.log.jobs g.old.log.unit g.new.log.turns result }
+    ensures runner { g.new.z.ghost_name ≡ g.old.z.ghost_name }
+{
+    let Ok(pair) = own_pair(alloc, g) else {
+        return g.out_of_memory();
+    };
+    let mut known = Known::new(alloc);
+    either_of(replicate_pair(alloc, g, &pair, &mut known))
+}

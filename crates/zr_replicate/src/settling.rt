@@ -1,0 +1,314 @@
+//! Settling the target's newest snapshot: first what keeps it, then what is no longer wanted.
+
+ghost use Rattle.std.specs.Prelude.{◌≡◌, ◌≢◌, ◌&&◌, [], IfOk, MatchOption, OnOk, true, false, find, not, slice_get};
+ghost use Rattle.std.specs.List.{list_all};
+ghost use Rattle.std.specs.Option.{option_copied};
+ghost use Rattle.zr_names.specs.Marks.{cursor_text, mark_kind};
+ghost use Rattle.zr_names.specs.declared.marks.MarkKind.TheVariants.{Cursor};
+ghost use Rattle.zr_plan.specs.Plan.{is_cursor, is_cursor_of, kind_in};
+ghost use Rattle.zr_known.specs.Known.{is_among};
+ghost use Rattle.zr_replicate.specs.Settling.{first_other, HasCursor, is_any_cursor, is_bookmark, IsAlone, IsOtherMark, IsOtherName, IsSafe, MaySettle, OnlyMarks};
+ghost use Rattle.zr_replicate.specs.Working.{AtWork, sight, Stage, Went};
+ghost use Rattle.zr_world.specs.Lookup.{same_text};
+
+use crate::stages::{destroy_mark, hold_last, make_cursor, release_last, release_step};
+use std::alloc::{AllocError, Global};
+use zr_known::{Known, Pair};
+use zr_names::{
+    Guid, JobName, MarkKind, MarkName, NoMemory, Outcome, Same, SnapName, cursor_name, mark_of,
+};
+use zr_permit::Guarded;
+use zr_world::{VersionName, VersionRow, Zfs};
+
+/// The target's newest snapshot.
+#[derive(Debug, Drop)]
+pub(crate) struct Newest {
+    pub(crate) name: SnapName,
+    pub(crate) guid: Guid,
+}
+
+/// The name of the job's cursor of a guid.
+fn cursor_of(alloc: Global, guid: Guid, job: &JobName) -> Result<MarkName, NoMemory>
+    ensures name { IfOk result (λ name. name ≡ cursor_text guid.0 job.now) }
+    ensures kind { IfOk result (λ name. mark_kind name job.now ≡ Cursor guid) }
+{
+    cursor_name(alloc, guid, job)
+}
+
+/// Makes the cursor of the newest snapshot, where it is not there.
+fn make_missing_cursor<Z: Zfs>(
+    alloc: Global,
+    g: &mut Guarded<'_, Z>,
+    pair: &Pair,
+    known: &mut Known,
+    newest: &Newest,
+    version: &VersionName,
+) -> Result<(), Outcome>
+    requires at_work { AtWork pair.now known.old
+        (sight g.old.log g.old.short (Z.told g.old.z.now) (Z.faults g.old.z.now)) }
+    requires may { MaySettle pair.now known.old newest.now version.now }
+    ensures went { Went (sight g.old.log g.old.short (Z.told g.old.z.now) (Z.faults g.old.z.now))
+        (sight g.new.log g.new.short (Z.told g.new.z.now) (Z.faults g.new.z.now)) }
+    ensures stage { Stage pair.now (sight g.old.log g.old.short (Z.told g.old.z.now) (Z.faults g.old.z.now))
+        (sight g.new.log g.new.short (Z.told g.new.z.now) (Z.faults g.new.z.now)) known.new result }
+    ensures cursor { OnOk result (HasCursor pair.now known.new newest.now) }
+    ensures only { OnOk result (known.new ≡ record known.old { marks = known.new.marks }) }
+    ensures runner { g.new.z.ghost_name ≡ g.old.z.ghost_name }
+{
+    match cursor_of(alloc, newest.guid, &pair.job) {
+        Ok(name) if known.has_mark(&name) => Ok(()),
+        Ok(name) => make_cursor(alloc, g, pair, known, version, &name),
+        Err(_) => Err(g.out_of_memory()),
+    }
+}
+
+/// Puts the last-received hold on the newest snapshot, where it is not there.
+fn hold_missing_last<Z: Zfs>(
+    alloc: Global,
+    g: &mut Guarded<'_, Z>,
+    pair: &Pair,
+    known: &mut Known,
+    newest: &Newest,
+) -> Result<(), Outcome>
+    requires at_work { AtWork pair.now known.old
+        (sight g.old.log g.old.short (Z.told g.old.z.now) (Z.faults g.old.z.now)) }
+    requires may { HasCursor pair.now known.old newest.now }
+    ensures went { Went (sight g.old.log g.old.short (Z.told g.old.z.now) (Z.faults g.old.z.now))
+        (sight g.new.log g.new.short (Z.told g.new.z.now) (Z.faults g.new.z.now)) }
+    ensures stage { Stage pair.now (sight g.old.log g.old.short (Z.told g.old.z.now) (Z.faults g.old.z.now))
+        (sight g.new.log g.new.short (Z.told g.new.z.now) (Z.faults g.new.z.now)) known.new result }
+    ensures safe { OnOk result (IsSafe pair.now known.new newest.now) }
+    ensures only { OnOk result (known.new ≡ record known.old { last_held = known.new.last_held }) }
+    ensures runner { g.new.z.ghost_name ≡ g.old.z.ghost_name }
+{
+    if known.is_last_held(&newest.name) {
+        Ok(())
+    } else {
+        hold_last(alloc, g, pair, known, &newest.name)
+    }
+}
+
+/// The first name that is another.
+fn first_other_name<'a>(names: &'a [SnapName], name: &SnapName) -> Option<&'a SnapName>
+    ensures { option_copied result ≡ find (λ other. not (same_text other name.now)) names.now }
+{
+    names.iter().find(|other| **other != *name)
+}
+
+/// The next snapshot of the target to lose its last-received hold.
+fn other_last(known: &Known, newest: &Newest) -> Result<Option<SnapName>, AllocError>
+    ensures { IfOk result (λ other. MatchOption other
+        (list_all (λ other. same_text other newest.now.name) known.now.last_held ≡ true)
+        (IsOtherName known.now.last_held newest.now.name)) }
+{
+    match first_other_name(known.last_held.as_slice(), &newest.name) {
+        Some(name) => Ok(Some(name.same()?)),
+        None => Ok(None),
+    }
+}
+
+/// Takes the last-received hold off every other snapshot of the target.
+fn release_other_last<Z: Zfs>(
+    alloc: Global,
+    g: &mut Guarded<'_, Z>,
+    pair: &Pair,
+    known: &mut Known,
+    newest: &Newest,
+) -> Result<(), Outcome>
+    requires at_work { AtWork pair.now known.old
+        (sight g.old.log g.old.short (Z.told g.old.z.now) (Z.faults g.old.z.now)) }
+    requires safe { IsSafe pair.now known.old newest.now }
+    ensures went { Went (sight g.old.log g.old.short (Z.told g.old.z.now) (Z.faults g.old.z.now))
+        (sight g.new.log g.new.short (Z.told g.new.z.now) (Z.faults g.new.z.now)) }
+    ensures stage { Stage pair.now (sight g.old.log g.old.short (Z.told g.old.z.now) (Z.faults g.old.z.now))
+        (sight g.new.log g.new.short (Z.told g.new.z.now) (Z.faults g.new.z.now)) known.new result }
+    ensures safe { OnOk result (IsSafe pair.now known.new newest.now) }
+    ensures alone { OnOk result (list_all (λ other. same_text other newest.now.name) known.new.last_held ≡ true) }
+    ensures only { OnOk result (known.new ≡ record known.old { last_held = known.new.last_held }) }
+    ensures runner { g.new.z.ghost_name ≡ g.old.z.ghost_name }
+{
+    loop {
+        match other_last(known, newest) {
+            Ok(Some(name)) => release_last(alloc, g, pair, known, &name)?,
+            Ok(None) => return Ok(()),
+            Err(_) => return Err(g.out_of_memory()),
+        }
+    }
+}
+
+/// What a row's name is to the job.
+fn kind_of(row: &VersionRow, job: &JobName) -> MarkKind
+    ensures { result ≡ kind_in job.now row.now.name }
+{
+    match &row.name {
+        VersionName::Snap(_) => MarkKind::Other,
+        VersionName::Mark(name) => mark_of(name, job),
+    }
+}
+
+fn is_cursor(kind: MarkKind, guid: Guid) -> bool
+    ensures { result ≡ is_cursor guid kind }
+{
+    match kind {
+        MarkKind::Cursor(own) => own == guid,
+        MarkKind::Tentative(_) | MarkKind::OldCursor | MarkKind::Other => false,
+    }
+}
+
+fn is_any_cursor(kind: MarkKind) -> bool
+    ensures { result ≡ is_any_cursor kind }
+{
+    matches!(kind, MarkKind::Cursor(_))
+}
+
+fn is_cursor_of(row: &VersionRow, job: &JobName, guid: Guid) -> bool
+    ensures { result ≡ is_cursor_of job.now guid row.now }
+{
+    is_cursor(kind_of(row, job), guid)
+}
+
+/// A cursor of the job that is not the one of a guid.
+fn other_cursor<'a>(marks: &'a [VersionRow], job: &JobName, guid: Guid) -> Option<&'a VersionRow>
+    ensures { option_copied result ≡
+        find (λ row. is_any_cursor (kind_in job.now row.name) && not (is_cursor_of job.now guid row)) marks.now }
+{
+    marks.iter().find(|row| is_any_cursor(kind_of(row, job)) && !is_cursor_of(row, job, guid))
+}
+
+/// A mark that is not the job's cursor of a guid.
+fn any_other<'a>(marks: &'a [VersionRow], job: &JobName, guid: Guid) -> Option<&'a VersionRow>
+    ensures { option_copied result ≡ find (λ row. not (is_cursor_of job.now guid row)) marks.now }
+{
+    marks.iter().find(|row| !is_cursor_of(row, job, guid))
+}
+
+/// The first mark that is not the job's cursor of a guid: cursors come before tentative cursors.
+fn first_other<'a>(marks: &'a [VersionRow], job: &JobName, guid: Guid) -> Option<&'a VersionRow>
+    ensures { option_copied result ≡ first_other job.now guid marks.now }
+{
+    if let Some(row) = other_cursor(marks, job, guid) {
+        Some(row)
+    } else {
+        any_other(marks, job, guid)
+    }
+}
+
+/// The next mark of the job on the source to go.
+fn other_mark(known: &Known, pair: &Pair, newest: &Newest) -> Result<Option<MarkName>, AllocError>
+    requires { list_all is_bookmark known.now.marks ≡ true }
+    ensures { IfOk result (λ other. MatchOption other
+        (list_all (is_cursor_of pair.now.job newest.now.guid) known.now.marks ≡ true)
+        (IsOtherMark pair.now known.now newest.now)) }
+{
+    match first_other(known.marks.as_slice(), &pair.job, newest.guid) {
+        Some(row) => match &row.name {
+            VersionName::Mark(name) => Ok(Some(name.same()?)),
+            VersionName::Snap(_) => unreachable!(),
+        },
+        None => Ok(None),
+    }
+}
+
+/// Destroys every other mark of the job on the source.
+fn destroy_other_marks<Z: Zfs>(
+    alloc: Global,
+    g: &mut Guarded<'_, Z>,
+    pair: &Pair,
+    known: &mut Known,
+    newest: &Newest,
+) -> Result<(), Outcome>
+    requires at_work { AtWork pair.now known.old
+        (sight g.old.log g.old.short (Z.told g.old.z.now) (Z.faults g.old.z.now)) }
+    requires safe { IsSafe pair.now known.old newest.now }
+    ensures went { Went (sight g.old.log g.old.short (Z.told g.old.z.now) (Z.faults g.old.z.now))
+        (sight g.new.log g.new.short (Z.told g.new.z.now) (Z.faults g.new.z.now)) }
+    ensures stage { Stage pair.now (sight g.old.log g.old.short (Z.told g.old.z.now) (Z.faults g.old.z.now))
+        (sight g.new.log g.new.short (Z.told g.new.z.now) (Z.faults g.new.z.now)) known.new result }
+    ensures safe { OnOk result (IsSafe pair.now known.new newest.now) }
+    ensures alone { OnOk result (list_all (is_cursor_of pair.now.job newest.now.guid) known.new.marks ≡ true) }
+    ensures only { OnOk result (known.new ≡ record known.old { marks = known.new.marks }) }
+    ensures runner { g.new.z.ghost_name ≡ g.old.z.ghost_name }
+{
+    loop {
+        match other_mark(known, pair, newest) {
+            Ok(Some(name)) => destroy_mark(alloc, g, pair, known, &name)?,
+            Ok(None) => return Ok(()),
+            Err(_) => return Err(g.out_of_memory()),
+        }
+    }
+}
+
+fn first_name(names: &[SnapName]) -> Option<&SnapName>
+    ensures { option_copied result ≡ slice_get names.now 0 }
+{
+    names.first()
+}
+
+/// The next source snapshot to lose its step hold.
+fn held_step(known: &Known) -> Result<Option<SnapName>, AllocError>
+    ensures { IfOk result (λ held. MatchOption held (known.now.step_held ≡ [])
+        (λ name. is_among known.now.step_held name ≡ true)) }
+{
+    match first_name(known.step_held.as_slice()) {
+        Some(name) => Ok(Some(name.same()?)),
+        None => Ok(None),
+    }
+}
+
+/// Takes the job's step holds off the source.
+fn release_steps<Z: Zfs>(
+    alloc: Global,
+    g: &mut Guarded<'_, Z>,
+    pair: &Pair,
+    known: &mut Known,
+    newest: &Newest,
+) -> Result<(), Outcome>
+    requires at_work { AtWork pair.now known.old
+        (sight g.old.log g.old.short (Z.told g.old.z.now) (Z.faults g.old.z.now)) }
+    requires safe { IsSafe pair.now known.old newest.now }
+    ensures went { Went (sight g.old.log g.old.short (Z.told g.old.z.now) (Z.faults g.old.z.now))
+        (sight g.new.log g.new.short (Z.told g.new.z.now) (Z.faults g.new.z.now)) }
+    ensures stage { Stage pair.now (sight g.old.log g.old.short (Z.told g.old.z.now) (Z.faults g.old.z.now))
+        (sight g.new.log g.new.short (Z.told g.new.z.now) (Z.faults g.new.z.now)) known.new result }
+    ensures safe { OnOk result (IsSafe pair.now known.new newest.now) }
+    ensures alone { OnOk result (known.new.step_held ≡ []) }
+    ensures only { OnOk result (known.new ≡ record known.old { step_held = known.new.step_held }) }
+    ensures runner { g.new.z.ghost_name ≡ g.old.z.ghost_name }
+{
+    loop {
+        match held_step(known) {
+            Ok(Some(name)) => release_step(alloc, g, pair, known, &name)?,
+            Ok(None) => return Ok(()),
+            Err(_) => return Err(g.out_of_memory()),
+        }
+    }
+}
+
+/// Settles the newest snapshot: its cursor and its last-received hold come first, then the other last-received holds, the
+/// other marks of the job and its step holds go.
+pub(crate) fn settle<Z: Zfs>(
+    alloc: Global,
+    g: &mut Guarded<'_, Z>,
+    pair: &Pair,
+    known: &mut Known,
+    newest: &Newest,
+    version: &VersionName,
+) -> Result<(), Outcome>
+    requires at_work { AtWork pair.now known.old
+        (sight g.old.log g.old.short (Z.told g.old.z.now) (Z.faults g.old.z.now)) }
+    requires may { MaySettle pair.now known.old newest.now version.now }
+    ensures went { Went (sight g.old.log g.old.short (Z.told g.old.z.now) (Z.faults g.old.z.now))
+        (sight g.new.log g.new.short (Z.told g.new.z.now) (Z.faults g.new.z.now)) }
+    ensures stage { Stage pair.now (sight g.old.log g.old.short (Z.told g.old.z.now) (Z.faults g.old.z.now))
+        (sight g.new.log g.new.short (Z.told g.new.z.now) (Z.faults g.new.z.now)) known.new result }
+    ensures safe { OnOk result (IsSafe pair.now known.new newest.now) }
+    ensures alone { OnOk result (IsAlone pair.now known.new newest.now) }
+    ensures only { OnOk result (OnlyMarks known.old known.new) }
+    ensures runner { g.new.z.ghost_name ≡ g.old.z.ghost_name }
+{
+    make_missing_cursor(alloc, g, pair, known, newest, version)?;
+    hold_missing_last(alloc, g, pair, known, newest)?;
+    release_other_last(alloc, g, pair, known, newest)?;
+    destroy_other_marks(alloc, g, pair, known, newest)?;
+    release_steps(alloc, g, pair, known, newest)
+}
