@@ -144,7 +144,7 @@ pub record MayHoldLast (pair : Pair) (known : Known) (name : List ℕ) : Type 0 
   pub free : is_among known.last_held name ≡ false
 
 -- its release: on another snapshot than the newest, once the newest has it
-pub record MayReleaseLast (pair : Pair) (known : Known) (name : List ℕ) : Type 0 where
+pub record MayReleaseLast (known : Known) (name : List ℕ) : Type 0 where
   pub held : is_among known.last_held name ≡ true
   pub last : VersionRow
   pub last_name : List ℕ
@@ -202,7 +202,7 @@ MayGive pair known (cmd.Holds path name) =
 MayGive pair known (cmd.Hold Step job path name) = IsOf pair job path pair.source × MayHoldStep known name
 MayGive pair known (cmd.Hold Last job path name) = IsOf pair job path pair.target × MayHoldLast pair known name
 MayGive pair known (cmd.Release Step job path name) = IsOf pair job path pair.source × MayReleaseStep pair known name
-MayGive pair known (cmd.Release Last job path name) = IsOf pair job path pair.target × MayReleaseLast pair known name
+MayGive pair known (cmd.Release Last job path name) = IsOf pair job path pair.target × MayReleaseLast known name
 MayGive pair known (cmd.Bookmark path version name) = (path ≡ pair.source) × MayMark pair known version name
 MayGive pair known (cmd.DestroyMark path name) = (path ≡ pair.source) × MayDestroyMark pair known name
 MayGive pair known (cmd.Transfer transfer) = MayTransfer pair known transfer

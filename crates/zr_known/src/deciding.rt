@@ -7,8 +7,9 @@ ghost use Rattle.zr_world.specs.declared.version.VersionName.TheVariants.{Snap};
 ghost use Rattle.zr_known.specs.Known.{is_row_of};
 
 use crate::known::{Known, Pair, Receiving};
-use crate::versions::{has_cursor, has_mark, has_snap, is_among, is_cursor, is_snap_named, newest};
+use crate::versions::{has_cursor, has_mark, has_snap, is_among, is_snap_named};
 use zr_names::{Guid, JobName, MarkName, Path, SnapName, mark_of};
+use zr_plan::{is_cursor, newest};
 use zr_world::{SetRow, VersionName, VersionRow};
 
 /// Whether a row is the snapshot of this name, and its holds are known.
@@ -178,10 +179,9 @@ impl Known {
     }
 
     /// Whether the last-received hold of a snapshot may be released.
-    pub fn may_release_last(&self, pair: &Pair, name: &SnapName) -> bool
-        ensures { Decides result (MayReleaseLast pair.now self.now name.now) }
+    pub fn may_release_last(&self, name: &SnapName) -> bool
+        ensures { Decides result (MayReleaseLast self.now name.now) }
     {
-        let _ = pair;
         let Some(last) = self.newest() else {
             return false;
         };

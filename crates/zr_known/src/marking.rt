@@ -1,8 +1,9 @@
 ghost use Rattle.std.specs.Prelude.{◌≡◌};
 
 use crate::known::{Known, Pair};
-use crate::versions::{is_snap_of, is_tentative_of, row_of, snap_row};
+use crate::versions::{row_of, snap_row};
 use zr_names::Guid;
+use zr_plan::{is_snap_of, is_tentative_of};
 use zr_world::{VersionName, VersionRow};
 
 impl Known {

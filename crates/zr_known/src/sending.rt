@@ -3,10 +3,9 @@ ghost use Rattle.zr_plan.specs.Plan.{is_snap};
 ghost use Rattle.zr_known.specs.Replication.{is_there};
 
 use crate::known::{Known, Pair, Presence, Receiving};
-use crate::versions::is_snap;
 use std::alloc::Global;
 use zr_names::{Guid, Initial, NoMemory, Rows, Same, cursor_name, same_items};
-use zr_plan::{Planned, Step, Target, plan};
+use zr_plan::{Planned, Step, Target, is_snap, plan};
 use zr_world::{Base, Transfer, VersionRow};
 
 pub(crate) fn is_there(presence: Presence) -> bool

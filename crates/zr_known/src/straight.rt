@@ -7,8 +7,9 @@ ghost use Rattle.zr_known.specs.Straight.{has_known_holds, has_listed_holds, is_
 use crate::deciding::shows_path;
 use crate::known::{Known, Pair, Presence, Receiving};
 use crate::sending::is_there;
-use crate::versions::{is_among, is_cursor_of, newest};
+use crate::versions::is_among;
 use zr_names::{Guid, JobName, SnapName};
+use zr_plan::{is_cursor_of, newest};
 use zr_world::{VersionName, VersionRow};
 
 /// The number of the conflict of a pair that is not straight.

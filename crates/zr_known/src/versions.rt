@@ -2,33 +2,13 @@ ghost use Rattle.std.specs.Prelude.{◌≡◌, ◌&&◌, find};
 ghost use Rattle.std.specs.List.{list_any};
 ghost use Rattle.std.specs.Option.{option_copied};
 ghost use Rattle.zr_world.specs.Lookup.{same_name};
-ghost use Rattle.zr_plan.specs.Plan.{is_cursor, is_cursor_of, is_snap, is_snap_of, is_tentative_of, kind_in, newest};
+ghost use Rattle.zr_plan.specs.Plan.{is_cursor_of, is_snap, kind_in};
 ghost use Rattle.zr_known.specs.Known.{is_among, is_own, is_own_kind, is_row_of};
 ghost use Rattle.zr_world.specs.declared.version.VersionName.TheVariants.{Mark, Snap};
 
 use zr_names::{Guid, JobName, MarkKind, MarkName, SnapName, mark_of};
+use zr_plan::{is_cursor_of, is_snap, kind_in};
 use zr_world::{VersionName, VersionRow};
-
-pub(crate) fn is_snap(row: &VersionRow) -> bool
-    ensures { result ≡ is_snap row.now }
-{
-    matches!(row.name, VersionName::Snap(_))
-}
-
-pub(crate) fn is_snap_of(row: &VersionRow, guid: Guid) -> bool
-    ensures { result ≡ is_snap_of guid row.now }
-{
-    is_snap(row) && row.guid.0 == guid.0
-}
-
-fn kind_in(name: &VersionName, job: &JobName) -> MarkKind
-    ensures { result ≡ kind_in job.now name.now }
-{
-    match name {
-        VersionName::Snap(_) => MarkKind::Other,
-        VersionName::Mark(mark) => mark_of(mark, job),
-    }
-}
 
 fn is_own_kind(kind: MarkKind) -> bool
     ensures { result ≡ is_own_kind kind }
@@ -51,31 +31,6 @@ pub(crate) fn is_own_mark(name: &MarkName, job: &JobName) -> bool
     ensures { result ≡ is_own_kind (kind_in job.now (Mark name.now)) }
 {
     is_own_kind(mark_of(name, job))
-}
-
-/// Whether a mark is the cursor of a guid.
-pub(crate) fn is_cursor(kind: MarkKind, guid: Guid) -> bool
-    ensures { result ≡ is_cursor guid kind }
-{
-    match kind {
-        MarkKind::Cursor(own) => own.0 == guid.0,
-        MarkKind::Tentative(_) | MarkKind::OldCursor | MarkKind::Other => false,
-    }
-}
-
-pub(crate) fn is_cursor_of(row: &VersionRow, job: &JobName, guid: Guid) -> bool
-    ensures { result ≡ is_cursor_of job.now guid row.now }
-{
-    is_cursor(kind_in(&row.name, job), guid)
-}
-
-pub(crate) fn is_tentative_of(row: &VersionRow, job: &JobName, guid: Guid) -> bool
-    ensures { result ≡ is_tentative_of job.now guid row.now }
-{
-    match kind_in(&row.name, job) {
-        MarkKind::Tentative(own) => own.0 == guid.0,
-        MarkKind::Cursor(_) | MarkKind::OldCursor | MarkKind::Other => false,
-    }
 }
 
 /// Whether a row has this name.
@@ -114,13 +69,6 @@ pub(crate) fn has_snap(rows: &[VersionRow], name: &SnapName) -> bool
     ensures { result ≡ list_any (is_row_of (Snap name.now)) rows.now }
 {
     rows.iter().any(|row| is_snap_named(row, name))
-}
-
-/// The last snapshot of a listing.
-pub(crate) fn newest<'a>(rows: &'a [VersionRow]) -> Option<&'a VersionRow>
-    ensures { option_copied result ≡ newest rows.now }
-{
-    rows.iter().rev().find(|row| is_snap(row))
 }
 
 pub(crate) fn is_among(names: &[SnapName], name: &SnapName) -> bool

@@ -13,7 +13,6 @@ ghost use Rattle.zr_plan.specs.Plan.{
   is_snap,
   is_snap_of,
   is_tentative_of,
-  kind_in,
   newest,
   newest_common,
   own_version,
@@ -27,48 +26,10 @@ ghost use Rattle.zr_plan.specs.Plan.{
 };
 
 use crate::target::{Conflict, Planned, Step, Target, TokenInfo};
+use crate::versions::{is_cursor_of, is_snap, is_snap_of, is_tentative_of, newest};
 use std::alloc::Global;
-use zr_names::{Guid, Initial, JobName, MarkKind, NoMemory, Rows, Same, mark_of};
+use zr_names::{Guid, Initial, JobName, NoMemory, Rows, Same};
 use zr_world::{VersionName, VersionRow};
-
-fn is_snap(row: &VersionRow) -> bool
-    ensures { result ≡ is_snap row.now }
-{
-    matches!(row.name, VersionName::Snap(_))
-}
-
-fn is_snap_of(row: &VersionRow, guid: Guid) -> bool
-    ensures { result ≡ is_snap_of guid row.now }
-{
-    is_snap(row) && row.guid.0 == guid.0
-}
-
-fn kind_in(row: &VersionRow, job: &JobName) -> MarkKind
-    ensures { result ≡ kind_in job.now row.now.name }
-{
-    match &row.name {
-        VersionName::Snap(_) => MarkKind::Other,
-        VersionName::Mark(name) => mark_of(name, job),
-    }
-}
-
-fn is_cursor_of(row: &VersionRow, job: &JobName, guid: Guid) -> bool
-    ensures { result ≡ is_cursor_of job.now guid row.now }
-{
-    match kind_in(row, job) {
-        MarkKind::Cursor(own) => own.0 == guid.0,
-        MarkKind::Tentative(_) | MarkKind::OldCursor | MarkKind::Other => false,
-    }
-}
-
-fn is_tentative_of(row: &VersionRow, job: &JobName, guid: Guid) -> bool
-    ensures { result ≡ is_tentative_of job.now guid row.now }
-{
-    match kind_in(row, job) {
-        MarkKind::Tentative(own) => own.0 == guid.0,
-        MarkKind::Cursor(_) | MarkKind::OldCursor | MarkKind::Other => false,
-    }
-}
 
 fn cursor_of<'a>(job: &JobName, source: &'a [VersionRow], guid: Guid) -> Option<&'a VersionRow>
     ensures { option_copied result ≡ find (is_cursor_of job.now guid) source.now }
@@ -99,12 +60,6 @@ fn own_version<'a>(job: &JobName, source: &'a [VersionRow], guid: Guid) -> Optio
     } else {
         tentative_of(job, source, guid)
     }
-}
-
-fn newest<'a>(rows: &'a [VersionRow]) -> Option<&'a VersionRow>
-    ensures { option_copied result ≡ newest rows.now }
-{
-    rows.iter().rev().find(|row| is_snap(row))
 }
 
 fn is_common(job: &JobName, source: &[VersionRow], row: &VersionRow) -> bool

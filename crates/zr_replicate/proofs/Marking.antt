@@ -163,7 +163,7 @@ held-safe pair before now newest has is =
     })
 
 -- what is no longer wanted of the last-received holds goes
-pub may-release_last : (pair : Pair) (known : Known) (newest : Newest) (name : List ℕ) → IsSafe pair known newest → IsOtherName known.last_held newest.name name → MayReleaseLast pair known name
+pub may-release_last : (pair : Pair) (known : Known) (newest : Newest) (name : List ℕ) → IsSafe pair known newest → IsOtherName known.last_held newest.name name → MayReleaseLast known name
 may-release_last pair known newest name safe other = record {
   held = other.among;
   last = safe.last;

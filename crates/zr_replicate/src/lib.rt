@@ -75,37 +75,6 @@ fn finished_with(steps: usize) -> Outcome
     }
 }
 
-/// How a unit ends whose target has what the source has.
-fn finish<Z: Zfs>(g: &Guarded<'_, Z>, pair: &Pair, known: &Known) -> Outcome
-    requires at_work { AtWork pair.now known.now
-        (sight g.now.log g.now.short (Z.told g.now.z.now) (Z.faults g.now.z.now)) }
-    requires finished { IsFinished pair.now known.now }
-    ensures result { ResultOf g.now.log.jobs g.now.log.unit g.now.log.turns result }
-    ensures no_fault { is_child_fault result ≡ false }
-    ensures memory { is_out_of_memory result ≡ false }
-{
-    let _ = pair;
-    let _ = known;
-    finished_with(done_transfers(g.log.turns()))
-}
-
-/// How a unit ends that has listed everything, and found what is not straight.
-fn refuse<Z: Zfs>(g: &Guarded<'_, Z>, pair: &Pair, known: &Known) -> Outcome
-    requires at_work { AtWork pair.now known.now
-        (sight g.now.log g.now.short (Z.told g.now.z.now) (Z.faults g.now.z.now)) }
-    requires lists { OnlyLists g.now.log.turns }
-    requires listed { has_listed pair.now known.now ≡ true }
-    requires crooked { is_straight pair.now known.now ≡ false }
-    ensures result { ResultOf g.now.log.jobs g.now.log.unit g.now.log.turns result }
-    ensures no_fault { is_child_fault result ≡ false }
-    ensures memory { is_out_of_memory result ≡ false }
-{
-    let _ = g;
-    let _ = pair;
-    let _ = known;
-    Outcome::Conflict(NOT_STRAIGHT)
-}
-
 /// The outcome, whether or not the unit ended early.
 fn either_of(ended: Result<Outcome, Outcome>) -> Outcome
     ensures { result ≡ either_of ended }
@@ -134,10 +103,10 @@ fn replicate_pair<Z: Zfs>(
 {
     list_everything(alloc, g, pair, known)?;
     if !known.is_straight(pair) {
-        return Ok(refuse(g, pair, known));
+        return Ok(Outcome::Conflict(NOT_STRAIGHT));
     }
     bring_up_to_date(alloc, g, pair, known)?;
-    Ok(finish(g, pair, known))
+    Ok(finished_with(done_transfers(g.log.turns())))
 }
 
 /// Replicates the unit's dataset to its target: lists both, holds each snapshot that is to be sent, sends it in full or

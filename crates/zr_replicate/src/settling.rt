@@ -5,7 +5,7 @@ ghost use Rattle.std.specs.List.{list_all};
 ghost use Rattle.std.specs.Option.{option_copied};
 ghost use Rattle.zr_names.specs.Marks.{cursor_text, mark_kind};
 ghost use Rattle.zr_names.specs.declared.marks.MarkKind.TheVariants.{Cursor};
-ghost use Rattle.zr_plan.specs.Plan.{is_cursor, is_cursor_of, kind_in};
+ghost use Rattle.zr_plan.specs.Plan.{is_cursor_of, kind_in};
 ghost use Rattle.zr_known.specs.Known.{is_among};
 ghost use Rattle.zr_replicate.specs.Settling.{first_other, HasCursor, is_any_cursor, is_bookmark, IsAlone, IsOtherMark, IsOtherName, IsSafe, MaySettle, OnlyMarks};
 ghost use Rattle.zr_replicate.specs.Working.{AtWork, sight, Stage, Went};
@@ -14,10 +14,9 @@ ghost use Rattle.zr_world.specs.Lookup.{same_text};
 use crate::stages::{destroy_mark, hold_last, make_cursor, release_last, release_step};
 use std::alloc::{AllocError, Global};
 use zr_known::{Known, Pair};
-use zr_names::{
-    Guid, JobName, MarkKind, MarkName, NoMemory, Outcome, Same, SnapName, cursor_name, mark_of,
-};
+use zr_names::{Guid, JobName, MarkKind, MarkName, NoMemory, Outcome, Same, SnapName, cursor_name};
 use zr_permit::Guarded;
+use zr_plan::{is_cursor_of, kind_in};
 use zr_world::{VersionName, VersionRow, Zfs};
 
 /// The target's newest snapshot.
@@ -136,35 +135,10 @@ fn release_other_last<Z: Zfs>(
     }
 }
 
-/// What a row's name is to the job.
-fn kind_of(row: &VersionRow, job: &JobName) -> MarkKind
-    ensures { result ≡ kind_in job.now row.now.name }
-{
-    match &row.name {
-        VersionName::Snap(_) => MarkKind::Other,
-        VersionName::Mark(name) => mark_of(name, job),
-    }
-}
-
-fn is_cursor(kind: MarkKind, guid: Guid) -> bool
-    ensures { result ≡ is_cursor guid kind }
-{
-    match kind {
-        MarkKind::Cursor(own) => own == guid,
-        MarkKind::Tentative(_) | MarkKind::OldCursor | MarkKind::Other => false,
-    }
-}
-
 fn is_any_cursor(kind: MarkKind) -> bool
     ensures { result ≡ is_any_cursor kind }
 {
     matches!(kind, MarkKind::Cursor(_))
-}
-
-fn is_cursor_of(row: &VersionRow, job: &JobName, guid: Guid) -> bool
-    ensures { result ≡ is_cursor_of job.now guid row.now }
-{
-    is_cursor(kind_of(row, job), guid)
 }
 
 /// A cursor of the job that is not the one of a guid.
@@ -172,7 +146,7 @@ fn other_cursor<'a>(marks: &'a [VersionRow], job: &JobName, guid: Guid) -> Optio
     ensures { option_copied result ≡
         find (λ row. is_any_cursor (kind_in job.now row.name) && not (is_cursor_of job.now guid row)) marks.now }
 {
-    marks.iter().find(|row| is_any_cursor(kind_of(row, job)) && !is_cursor_of(row, job, guid))
+    marks.iter().find(|row| is_any_cursor(kind_in(&row.name, job)) && !is_cursor_of(row, job, guid))
 }
 
 /// A mark that is not the job's cursor of a guid.

@@ -84,7 +84,7 @@ pub(crate) fn release_last<Z: Zfs>(
 ) -> Result<(), Outcome>
     requires at_work { AtWork pair.now known.old
         (sight g.old.log g.old.short (Z.told g.old.z.now) (Z.faults g.old.z.now)) }
-    requires may { MayReleaseLast pair.now known.old name.now }
+    requires may { MayReleaseLast known.old name.now }
     ensures went { Went (sight g.old.log g.old.short (Z.told g.old.z.now) (Z.faults g.old.z.now))
         (sight g.new.log g.new.short (Z.told g.new.z.now) (Z.faults g.new.z.now)) }
     ensures stage { Stage pair.now (sight g.old.log g.old.short (Z.told g.old.z.now) (Z.faults g.old.z.now))

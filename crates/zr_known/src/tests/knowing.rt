@@ -28,7 +28,7 @@ fn push_holds(text: &mut String, known: &Known, pair: &Pair, name: &SnapName) ->
         (" step", known.may_hold_step(name)),
         (" unstep", known.may_release_step(pair, name)),
         (" last", known.may_hold_last(pair, name)),
-        (" unlast", known.may_release_last(pair, name)),
+        (" unlast", known.may_release_last(name)),
     ];
     for (word, may) in words {
         if may {
