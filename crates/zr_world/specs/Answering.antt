@@ -18,6 +18,10 @@ abbrev pub is_failed : Answer → Bool
 is_failed Failed = true
 is_failed answer = false
 
+abbrev pub is_garbled : Answer → Bool
+is_garbled (Garbled line) = true
+is_garbled answer = false
+
 abbrev pub is_no_memory : Answer → Bool
 is_no_memory NoMemory = true
 is_no_memory answer = false

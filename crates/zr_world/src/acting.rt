@@ -1,6 +1,7 @@
-ghost use Rattle.std.specs.Prelude.{◌≡◌, ◌++◌, ◌∷◌, [], is_some, true};
-ghost use Rattle.zr_world.specs.Answering.{Answers, Fits, HasCause};
+ghost use Rattle.std.specs.Prelude.{◌≡◌, ◌++◌, ◌∷◌, [], None, false, is_some, true};
+ghost use Rattle.zr_world.specs.Answering.{Answers, Fits, HasCause, is_garbled};
 ghost use Rattle.zr_world.specs.Pools.{IsWellFormed};
+ghost use Rattle.zr_world.specs.Reasons.{refusal};
 
 use crate::command::{Answer, Cmd};
 use crate::effects::{ApplyFault, Extent, apply};
@@ -19,7 +20,9 @@ pub fn act(
     ensures answer { Answers cmd.now pools.old pools.new result }
     ensures well_formed { IsWellFormed pools.old → IsWellFormed pools.new }
     ensures shape { IsWellFormed pools.old → Fits cmd.now result }
+    ensures legible { is_garbled result ≡ false }
     ensures planned { is_some plan ≡ true → result ≡ Answer.Failed }
+    ensures refused { plan ≡ None → result ≡ Answer.Failed → is_some (refusal pools.old cmd.now) ≡ true }
 {
     match plan {
         Some(extent) => fail(alloc, pools, faults, cmd, extent),
@@ -45,6 +48,8 @@ fn succeed(alloc: Global, pools: &mut Pools, faults: &mut u64, cmd: &Cmd) -> Ans
     ensures answer { Answers cmd.now pools.old pools.new result }
     ensures well_formed { IsWellFormed pools.old → IsWellFormed pools.new }
     ensures shape { IsWellFormed pools.old → Fits cmd.now result }
+    ensures legible { is_garbled result ≡ false }
+    ensures refused { result ≡ Answer.Failed → is_some (refusal pools.old cmd.now) ≡ true }
 {
     match apply(alloc, pools, cmd, Extent::Whole) {
         Ok(reply) => Answer::Done(reply),
