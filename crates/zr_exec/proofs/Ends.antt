@@ -1,13 +1,15 @@
-use Rattle.std.proofs.Common.{◌≡◌, ℕ, List, inl, inr, ap, sym, subst}
-use Rattle.zr_cmd.specs.Words.{Spells}
+use Rattle.std.proofs.Common.{◌≡◌, ℕ, List, Option, Some, None, inl, inr, ap, sym, subst}
+use Rattle.zr_cmd.specs.Words.{receive_of, send_of, Spells}
+use Rattle.zr_cmd.specs.declared.forms.Call.{Call}
 use Rattle.zr_cmd.specs.declared.forms.Call.TheVariants as call
 use Rattle.zr_exec.specs.declared.spawn.Line.{Line}
 use Rattle.zr_exec.specs.declared.spawn.PipeExit.{PipeExit}
 use Rattle.zr_exec.specs.declared.spawn.PipeExit.TheVariants as piped
 use Rattle.zr_exec.specs.declared.spawn.RunExit.{RunExit}
 use Rattle.zr_exec.specs.declared.spawn.RunExit.TheVariants.{Done, Nonzero, Failed, TooLong, NoMemory}
-use Rattle.zr_exec.specs.Serving.{Does, DoesPipe, DoesTransfer, DoesWords}
-use Rattle.zr_exec.proofs.Commands.{one_command}
+use Rattle.zr_exec.specs.Piping.{AreEnds, Finds}
+use Rattle.zr_exec.specs.Serving.{Does, DoesPipe, DoesTransfer, DoesWords, EndsUnplanned, PipeGives}
+use Rattle.zr_exec.proofs.Commands.{one_call, one_command}
 use Rattle.zr_exec.specs.Stored.{IsRecorded, IsRecordedPipe}
 use Rattle.zr_world.specs.declared.command.Cmd.{Cmd}
 use Rattle.zr_world.specs.declared.command.Transfer.{Transfer}
@@ -64,3 +66,30 @@ pipe_recorded send all_send receive all_receive before old after lines more exit
       | inl kept ↦ subst (DoesPipe send receive before after) (sym kept.1) does
       | inr lost ↦ subst (DoesPipe send receive before after) (sym lost.1) (pipe-short send receive before after exit does)
     ])))
+
+-- how a child may end that does the command that its words spell
+pub unplanned_spelled : (words : List (List ℕ)) (command given : Cmd) (before : Pools) (exit : RunExit) → Spells words (call.One command) → EndsUnplanned command before exit → Spells words (call.One given) → EndsUnplanned given before exit
+unplanned_spelled words command given before exit spelled ends other =
+    subst (λ (c : Cmd). EndsUnplanned c before exit) (one_command words command given spelled other) ends
+
+-- a pipe whose words spell no call at one of its ends gives no transfer
+pub unsent : (send receive : List (List ℕ)) (pools : Pools) (transfer : Transfer) → ((given : Call) → Spells send given → ⊥) → PipeGives send receive pools transfer → ⊥
+unsent send receive pools transfer none gives = none (send_of transfer) gives.spelled.sends
+
+pub unreceived : (send receive : List (List ℕ)) (pools : Pools) (transfer : Transfer) → ((given : Call) → Spells receive given → ⊥) → PipeGives send receive pools transfer → ⊥
+unreceived send receive pools transfer none gives = none (receive_of transfer) gives.spelled.receives
+
+-- a pipe whose words spell these calls gives the transfer whose ends they are
+pub found_gives : (send receive : List (List ℕ)) (pools : Pools) (sends receives : Call) (found : Option Transfer) → Spells send sends → Spells receive receives → Finds (AreEnds pools sends receives) found → Finds (PipeGives send receive pools) found
+found_gives send receive pools sends receives None sent received none = λ other gives. none other (record {
+  sends = one_call send sends (send_of other) sent gives.spelled.sends;
+  receives = one_call receive receives (receive_of other) received gives.spelled.receives;
+  stands = gives.stands;
+})
+found_gives send receive pools sends receives (Some transfer) sent received ends = record {
+  spelled = record {
+    sends = subst (Spells send) ends.sends sent;
+    receives = subst (Spells receive) ends.receives received;
+  };
+  stands = ends.stands;
+}

@@ -1,16 +1,18 @@
-ghost use Rattle.std.specs.Prelude.{◌≡◌, true, IfOk, IfSome, map, string_bytes};
-ghost use Rattle.zr_cmd.specs.Words.{Spells};
+ghost use Rattle.std.specs.Prelude.{◌≡◌, ◌≢◌, None, true, false, IfOk, MatchOption, is_some, map, string_bytes};
 ghost use Rattle.zr_cmd.specs.declared.forms.Call.TheVariants as call;
 ghost use Rattle.zr_exec.specs.Exits.{HasPipeCause};
-ghost use Rattle.zr_exec.specs.Piping.{AreEnds};
-ghost use Rattle.zr_exec.specs.Serving.{DoesPipe, DoesTransfer, PipeGives};
+ghost use Rattle.zr_exec.specs.Piping.{AreEnds, Finds};
+ghost use Rattle.zr_exec.specs.Serving.{DoesPipe, DoesTransfer, IsVain, PipeGives};
 ghost use Rattle.zr_world.specs.Lookup.{stands};
 ghost use Rattle.zr_world.specs.Pools.{IsWellFormed};
+ghost use Rattle.zr_world.specs.Reasons.{refusal};
+ghost use Rattle.zr_world.specs.declared.command.Cmd.TheVariants as cmd;
 ghost use Rattle.zr_world.specs.declared.version.VersionName.TheVariants.{Mark, Snap};
 
+use crate::serving::read_call;
 use crate::spawn::PipeExit;
 use std::alloc::Global;
-use zr_cmd::{ArgvFault, Call, read_argv};
+use zr_cmd::Call;
 use zr_names::{Guid, MarkName, NoMemory, Path, SnapName};
 use zr_world::{Answer, Base, Cmd, Extent, Pools, Transfer, act};
 
@@ -25,14 +27,16 @@ fn failed(faults: &mut u64) -> PipeExit
 
 /// The guid of a snapshot, if it is there.
 fn snap_guid(pools: &Pools, path: &Path, name: &SnapName) -> Option<Guid>
-    ensures { IfSome result (λ guid. stands pools.entry.now path.now (Snap name.now) guid ≡ true) }
+    ensures { MatchOption result ((guid : Guid) → stands pools.entry.now path.now (Snap name.now) guid ≡ false)
+        (λ guid. stands pools.entry.now path.now (Snap name.now) guid ≡ true) }
 {
     Some(pools.snap(path, name)?.guid)
 }
 
 /// The guid of a bookmark, if it is there.
 fn mark_guid(pools: &Pools, path: &Path, name: &MarkName) -> Option<Guid>
-    ensures { IfSome result (λ guid. stands pools.entry.now path.now (Mark name.now) guid ≡ true) }
+    ensures { MatchOption result ((guid : Guid) → stands pools.entry.now path.now (Mark name.now) guid ≡ false)
+        (λ guid. stands pools.entry.now path.now (Mark name.now) guid ≡ true) }
 {
     Some(pools.mark(path, name)?.guid)
 }
@@ -45,7 +49,7 @@ fn full_transfer(
     target: Path,
     force: bool,
 ) -> Option<Transfer>
-    ensures { IfSome result (AreEnds pools.entry.now (call.SendFull source to) (call.Receive target force)) }
+    ensures { Finds (AreEnds pools.entry.now (call.SendFull source to) (call.Receive target force)) result }
 {
     let guid = snap_guid(pools, &source, &to)?;
     Some(Transfer {
@@ -67,7 +71,7 @@ fn increment(
     target: Path,
     force: bool,
 ) -> Option<Transfer>
-    ensures { IfSome result (AreEnds pools.entry.now (call.SendFrom source mark to) (call.Receive target force)) }
+    ensures { Finds (AreEnds pools.entry.now (call.SendFrom source mark to) (call.Receive target force)) result }
 {
     let from = mark_guid(pools, &source, &mark)?;
     let guid = snap_guid(pools, &source, &to)?;
@@ -81,46 +85,44 @@ fn increment(
     })
 }
 
-/// The transfer whose ends two calls are. They name no guids, so these are looked up on the source.
-fn transfer_of(pools: &Pools, send: Call, receive: Call) -> Option<Transfer>
-    ensures { IfSome result (AreEnds pools.entry.now send receive) }
+/// The transfer onto a target that a call sends. It names no guids, so these are looked up on the source.
+#[tactic(auto, using(crate::proofs::Commands::one_sends_none, crate::proofs::Commands::receive_sends_none))]
+fn transfer_onto(pools: &Pools, send: Call, target: Path, force: bool) -> Option<Transfer>
+    ensures { Finds (AreEnds pools.entry.now send (call.Receive target force)) result }
 {
-    match (send, receive) {
-        (Call::SendFull(source, to), Call::Receive(target, force)) => {
-            full_transfer(pools, source, to, target, force)
-        }
-        (Call::SendFrom(source, mark, to), Call::Receive(target, force)) => {
-            increment(pools, source, mark, to, target, force)
-        }
-        _ => None,
+    match send {
+        Call::SendFull(source, to) => full_transfer(pools, source, to, target, force),
+        Call::SendFrom(source, mark, to) => increment(pools, source, mark, to, target, force),
+        Call::One(_) => None,
+        Call::Receive(_, _) => None,
     }
 }
 
-/// The call whose words these are.
-fn read_end(alloc: Global, words: &[String]) -> Result<Option<Call>, NoMemory>
-    ensures { IfOk result (λ found. IfSome found (Spells (map string_bytes words.now))) }
+/// The transfer whose ends two calls are.
+fn transfer_of(pools: &Pools, send: Call, receive: Call) -> Option<Transfer>
+    ensures { Finds (AreEnds pools.entry.now send receive) result }
 {
-    match read_argv(alloc, words) {
-        Ok(call) => Ok(Some(call)),
-        Err(ArgvFault::UnknownCommand | ArgvFault::BadWord(_)) => Ok(None),
-        Err(ArgvFault::NoMemory) => Err(NoMemory),
-    }
+    let Call::Receive(target, force) = receive else {
+        return None;
+    };
+    transfer_onto(pools, send, target, force)
 }
 
 /// The transfer that the words of a pipe give on these pools.
+#[tactic(auto, using(crate::proofs::Ends::found_gives, crate::proofs::Ends::unreceived, crate::proofs::Ends::unsent))]
 fn read_transfer(
     alloc: Global,
     pools: &Pools,
     send: &[String],
     receive: &[String],
 ) -> Result<Option<Transfer>, NoMemory>
-    ensures { IfOk result (λ found. IfSome found
-        (PipeGives (map string_bytes send.now) (map string_bytes receive.now) pools.entry.now)) }
+    ensures { IfOk result
+        (Finds (PipeGives (map string_bytes send.now) (map string_bytes receive.now) pools.entry.now)) }
 {
-    let Some(send) = read_end(alloc, send)? else {
+    let Some(send) = read_call(alloc, send)? else {
         return Ok(None);
     };
-    let Some(receive) = read_end(alloc, receive)? else {
+    let Some(receive) = read_call(alloc, receive)? else {
         return Ok(None);
     };
     Ok(transfer_of(pools, send, receive))
@@ -138,12 +140,14 @@ fn do_transfer(
     ensures cause { HasPipeCause faults.old faults.new result }
     ensures well_formed { IsWellFormed pools.new }
     ensures does { DoesTransfer transfer pools.old pools.new result }
+    ensures planned { is_some plan ≡ true → result ≢ PipeExit.Done }
+    ensures refused { plan ≡ None → result ≡ PipeExit.Failed →
+        is_some (refusal pools.old (cmd.Transfer transfer)) ≡ true }
 {
     match act(alloc, pools, faults, &Cmd::Transfer(transfer), plan) {
         Answer::Done(_) => PipeExit::Done,
         Answer::Failed => PipeExit::Failed,
-        // no runner over pools gives this
-        Answer::Garbled(_) => failed(faults),
+        Answer::Garbled(_) => unreachable!(),
         Answer::NoMemory => PipeExit::NoMemory,
     }
 }
@@ -162,6 +166,9 @@ pub fn serve_pipe(
     ensures cause { HasPipeCause faults.old faults.new result }
     ensures well_formed { IsWellFormed pools.new }
     ensures does { DoesPipe (map string_bytes send.now) (map string_bytes receive.now) pools.old pools.new result }
+    ensures planned { is_some plan ≡ true → result ≢ PipeExit.Done }
+    ensures refused { plan ≡ None → result ≡ PipeExit.Failed →
+        IsVain (map string_bytes send.now) (map string_bytes receive.now) pools.old }
 {
     match read_transfer(alloc, pools, send, receive) {
         Ok(Some(transfer)) => do_transfer(alloc, pools, faults, transfer, plan),

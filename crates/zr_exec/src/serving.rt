@@ -1,9 +1,14 @@
-ghost use Rattle.std.specs.Prelude.{◌≡◌, ◌≤◌, [], IfOk, OnOk, drop, length, map, string_bytes};
+ghost use Rattle.std.specs.Prelude.{◌≡◌, ◌≢◌, ◌≤◌, [], IfOk, OnOk, None, drop, is_some, length, map, string_bytes, true};
+ghost use Rattle.zr_exec.specs.Commands.{command_in};
 ghost use Rattle.zr_exec.specs.Exits.{HasExitCause};
 ghost use Rattle.zr_exec.specs.Listed.{listed_by};
-ghost use Rattle.zr_exec.specs.Serving.{AreFree, Does, DoesWords, IsReply};
+ghost use Rattle.zr_cmd.specs.Words.{Spells};
+ghost use Rattle.zr_cmd.specs.declared.forms.Call.TheVariants.{One};
+ghost use Rattle.zr_exec.specs.Piping.{Finds, is_unspelled};
+ghost use Rattle.zr_exec.specs.Serving.{AreFree, Does, DoesWords, EndsUnplanned, IsReply};
 ghost use Rattle.zr_world.specs.Answering.{Fits};
 ghost use Rattle.zr_world.specs.Pools.{IsWellFormed};
+ghost use Rattle.zr_world.specs.declared.command.Cmd.{Cmd};
 
 use crate::spawn::{LISTING_LIMIT, RunExit};
 use std::alloc::Global;
@@ -57,6 +62,8 @@ fn write_out(text: &[u8], out: &mut Vec<u8>, faults: &mut u64) -> RunExit
     ensures within { length out.new.items ≤ LISTING_LIMIT }
     ensures full { result ≡ RunExit.TooLong → length out.new.items ≡ LISTING_LIMIT }
     ensures done { result ≡ RunExit.Done → out.new.items ≡ text.now }
+    ensures ran { result ≢ RunExit.Nonzero }
+    ensures ended { result ≢ RunExit.Failed }
 {
     if text.len() > LISTING_LIMIT {
         let front = text.get(..LISTING_LIMIT).unwrap_or(text);
@@ -69,6 +76,45 @@ fn write_out(text: &[u8], out: &mut Vec<u8>, faults: &mut u64) -> RunExit
         Ok(()) => RunExit::Done,
         Err(_) => RunExit::NoMemory,
     }
+}
+
+/// Whether words that are refused for this are those of no call.
+fn is_unspelled(fault: &ArgvFault) -> bool
+    ensures { result ≡ is_unspelled fault.now }
+{
+    match fault {
+        ArgvFault::UnknownCommand | ArgvFault::BadWord(_) => true,
+        ArgvFault::NoMemory => false,
+    }
+}
+
+/// The call whose words these are.
+pub(crate) fn read_call(alloc: Global, words: &[String]) -> Result<Option<Call>, NoMemory>
+    ensures { IfOk result (Finds (Spells (map string_bytes words.now))) }
+{
+    match read_argv(alloc, words) {
+        Ok(call) => Ok(Some(call)),
+        Err(fault) if is_unspelled(&fault) => Ok(None),
+        Err(_) => Err(NoMemory),
+    }
+}
+
+/// The command that a call is. One end of a transfer alone is none.
+fn command_in(call: Option<Call>) -> Option<Cmd>
+    ensures { result ≡ command_in call }
+{
+    match call {
+        Some(Call::One(cmd)) => Some(cmd),
+        _ => None,
+    }
+}
+
+/// The command whose words these are.
+#[tactic(auto, using(crate::proofs::Commands::found_command))]
+fn read_command(alloc: Global, words: &[String]) -> Result<Option<Cmd>, NoMemory>
+    ensures { IfOk result (Finds (λ (given : Cmd). Spells (map string_bytes words.now) (One given))) }
+{
+    Ok(command_in(read_call(alloc, words)?))
 }
 
 /// Serves a command on these pools, or fails it at a planned extent.
@@ -88,6 +134,8 @@ fn serve_command(
     ensures within { length out.new.items ≤ LISTING_LIMIT }
     ensures full { result ≡ RunExit.TooLong → length out.new.items ≡ LISTING_LIMIT }
     ensures does { Does cmd.now pools.old pools.new result out.new.items }
+    ensures planned { is_some plan ≡ true → result ≢ RunExit.Done }
+    ensures refused { plan ≡ None → EndsUnplanned cmd.now pools.old result }
 {
     match act(alloc, pools, faults, cmd, plan) {
         Answer::Done(reply) => {
@@ -98,15 +146,14 @@ fn serve_command(
         }
         Answer::Failed if plan.is_none() => RunExit::Nonzero,
         Answer::Failed => RunExit::Failed,
-        // no runner over pools gives this
-        Answer::Garbled(_) => counted(faults, RunExit::Failed),
+        Answer::Garbled(_) => unreachable!(),
         Answer::NoMemory => RunExit::NoMemory,
     }
 }
 
 /// Serves the words of a command on these pools, or fails it at a planned extent. Words that are no
 /// command's do nothing.
-#[tactic(auto, using(crate::proofs::Ends::does_spelled))]
+#[tactic(auto, using(crate::proofs::Ends::does_spelled, crate::proofs::Ends::unplanned_spelled))]
 pub fn serve(
     alloc: Global,
     pools: &mut Pools,
@@ -121,17 +168,14 @@ pub fn serve(
     ensures within { length out.new.items ≤ LISTING_LIMIT }
     ensures full { result ≡ RunExit.TooLong → length out.new.items ≡ LISTING_LIMIT }
     ensures does { DoesWords (map string_bytes words.now) pools.old pools.new result out.new.items }
+    ensures planned { is_some plan ≡ true → result ≢ RunExit.Done }
+    ensures refused { plan ≡ None → (given : Cmd) → Spells (map string_bytes words.now) (One given) →
+        EndsUnplanned given pools.old result }
 {
     out.clear();
-    match read_argv(alloc, words) {
-        Ok(Call::One(cmd)) => serve_command(alloc, pools, faults, &cmd, plan, out),
-        // one end of a transfer alone
-        Ok(Call::SendFull(_, _) | Call::SendFrom(_, _, _) | Call::Receive(_, _)) => {
-            counted(faults, RunExit::Nonzero)
-        }
-        Err(ArgvFault::UnknownCommand | ArgvFault::BadWord(_)) => {
-            counted(faults, RunExit::Nonzero)
-        }
-        Err(ArgvFault::NoMemory) => RunExit::NoMemory,
+    match read_command(alloc, words) {
+        Ok(Some(cmd)) => serve_command(alloc, pools, faults, &cmd, plan, out),
+        Ok(None) => counted(faults, RunExit::Nonzero),
+        Err(NoMemory) => RunExit::NoMemory,
     }
 }
