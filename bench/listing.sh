@@ -5,8 +5,9 @@ set -eu
 cd "$(dirname "$0")/.."
 limit=33554432
 
-(cd crates/bench_listing && rt run <stdin >/dev/null 2>&1)
-program=$PWD/crates/bench_listing/out/bench_listing
+# The program without a word prints how it is used, with status 2, and is proved and built first.
+(cd crates/bench && rt run >/dev/null 2>&1) || [ $? = 2 ]
+program=$PWD/crates/bench/out/bench
 listing=$(mktemp)
 trap 'rm -f "$listing"' EXIT
 
@@ -21,7 +22,7 @@ awk -v limit=$limit 'BEGIN {
 }' >"$listing"
 rows=$(wc -l <"$listing")
 
-read_() { (ulimit -v 1048576 && "$program" <"$listing"); }
+read_() { (ulimit -v 1048576 && "$program" listing <"$listing"); }
 sort_() { LC_ALL=C sort -t "$(printf '\t')" -k 3n "$listing" >/dev/null; }
 
 answer=$(read_)

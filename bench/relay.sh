@@ -5,18 +5,19 @@ set -eu
 cd "$(dirname "$0")/.."
 bytes=$((4 * 1024 * 1024 * 1024))
 
-(cd crates/bench_relay && rt run <stdin >/dev/null 2>&1)
-program=$PWD/crates/bench_relay/out/bench_relay
+# The program without a word prints how it is used, with status 2, and is proved and built first.
+(cd crates/bench && rt run >/dev/null 2>&1) || [ $? = 2 ]
+program=$PWD/crates/bench/out/bench
 
 zeros() { dd if=/dev/zero bs=64K count=65536 status=none; }
-memory() { echo "$bytes" | "$program" >/dev/null; }
+memory() { echo "$bytes" | "$program" relay >/dev/null; }
 relay() { zeros | "$program" pipe 2>/dev/null >/dev/null; }
 cat_() { zeros | cat >/dev/null; }
 dd_() { zeros | dd of=/dev/null bs=64K iflag=fullblock status=none; }
 
-answer=$(echo "$bytes" | "$program")
+answer=$(echo "$bytes" | "$program" relay)
 case $answer in
-"Whole($bytes),"*) ;;
+"whole $bytes,"*) ;;
 *) echo "relay: $answer" >&2 && exit 1 ;;
 esac
 

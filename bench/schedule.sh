@@ -5,8 +5,9 @@ set -eu
 cd "$(dirname "$0")/.."
 calls=2000
 
-(cd crates/bench_schedule && rt run <stdin >/dev/null 2>&1)
-program=$PWD/crates/bench_schedule/out/bench_schedule
+# The program without a word prints how it is used, with status 2, and is proved and built first.
+(cd crates/bench && rt run >/dev/null 2>&1) || [ $? = 2 ]
+program=$PWD/crates/bench/out/bench
 
 # ends of 1970, of 2026 and of 2983
 rows=(
@@ -24,7 +25,7 @@ rows=(
 run() {
     local from
     from=$(date +%s%N)
-    echo "$1" | "$program" >/dev/null
+    echo "$1" | "$program" schedule >/dev/null
     echo $(($(date +%s%N) - from))
 }
 
@@ -42,7 +43,7 @@ done
 slow=0
 for row in "${rows[@]}"; do
     each=$(((best[$row] - least) / calls))
-    answer=$(echo "1 $row" | "$program")
+    answer=$(echo "1 $row" | "$program" schedule)
     printf '%8d ns a call  %-34s %s\n' "$each" "$row" "${answer% *}"
     if [ "$each" -ge 1000000 ]; then slow=1; fi
 done

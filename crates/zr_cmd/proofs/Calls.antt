@@ -3,8 +3,8 @@ use Rattle.std.specs.Cmp.Lexicographic.{pointwise}
 use Rattle.std.specs.List.{list_any}
 use Rattle.std.proofs.lemmas.Cmp.{nat_list_eq_equiv}
 use Rattle.std.proofs.lemmas.Slice.Eq.{bytes_eq-Decides}
-use Rattle.zr_world.specs.declared.command.Cmd.TheVariants as cmd
-use Rattle.zr_world.specs.declared.version.VersionName.TheVariants as version
+use Rattle.zr_command.specs.declared.command.Cmd.TheVariants as cmd
+use Rattle.zr_command.specs.declared.version.VersionName.TheVariants as version
 use Rattle.zr_cmd.specs.Calls.{call_of, form_for, has_words}
 use Rattle.zr_cmd.specs.Forms.{is_sign, read_as}
 use Rattle.zr_cmd.specs.Words.{IsNamed, IsUnknown, Reads, Spells, sets_words, versions_words, words_of}

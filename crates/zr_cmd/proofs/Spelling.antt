@@ -1,7 +1,7 @@
 use Rattle.std.proofs.Common.{◌≡◌, ℕ, zero, suc, ◌+◌, true, false, List, [], ◌∷◌, ◌++◌, length, get_or, map, refl, arith, ap, ◌∙◌, sym, subst}
 use Rattle.std.proofs.lemmas.List.{length-map}
-use Rattle.zr_world.specs.declared.command.Cmd.TheVariants as cmd
-use Rattle.zr_world.specs.declared.version.VersionName.TheVariants as version
+use Rattle.zr_command.specs.declared.command.Cmd.TheVariants as cmd
+use Rattle.zr_command.specs.declared.version.VersionName.TheVariants as version
 use Rattle.zr_cmd.specs.Forms.{Fits, IsFull, Pattern, fixed, a_path, patterns_of, name_part, read_as, set_part}
 use Rattle.zr_cmd.specs.Words.{IsNamed, IsPath, Spells, sets_words, versions_words, words_of}
 use Rattle.zr_cmd.specs.declared.forms.Call.{Call}

@@ -5,13 +5,12 @@ use Rattle.std.proofs.lemmas.Bool.Decides.{nat_tests}
 use Rattle.std.proofs.lemmas.Str.{IsUtf8-from_ascii, IsAscii-append}
 use Rattle.std.specs.Str.{IsUtf8, IsAscii}
 use Rattle.zr_names.specs.Marks.{tag_front, tag_text}
-use Rattle.zr_names.specs.Names.{is_name_byte, name_is_bad, slash_is_bad, begins_component, is_dots}
+use Rattle.zr_names.specs.Names.{begins_component, is_dots, is_name_byte, IsName, name_is_bad, slash_is_bad}
 use Rattle.zr_names.specs.declared.marks.TagKind.{TagKind}
 use Rattle.zr_names.specs.declared.marks.TagKind.TheVariants.{Step, Last}
-use Rattle.zr_names.specs.Names.{IsName}
 use Rattle.zr_cmd.specs.Forms.{is_sign}
-use Rattle.zr_world.specs.declared.command.Cmd.{Cmd}
-use Rattle.zr_world.specs.declared.command.Cmd.TheVariants as cmd
+use Rattle.zr_command.specs.declared.command.Cmd.{Cmd}
+use Rattle.zr_command.specs.declared.command.Cmd.TheVariants as cmd
 use Rattle.zr_cmd.specs.Words.{AreNamed, IsJob, IsNamed, IsPath, argv_words, words_of}
 use Rattle.zr_cmd.specs.declared.argv.Argv.TheVariants as argv
 use Rattle.zr_cmd.specs.declared.forms.Call.TheVariants as call

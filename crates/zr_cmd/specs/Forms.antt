@@ -3,8 +3,8 @@ use Rattle.std.specs.List.{after_first, before_first, starts_with}
 use Rattle.zr_names.specs.Marks.{tag_front, tag_text}
 use Rattle.zr_names.specs.declared.marks.TagKind.{TagKind}
 use Rattle.zr_names.specs.declared.marks.TagKind.TheVariants.{Step, Last}
-use Rattle.zr_world.specs.declared.command.Cmd.TheVariants as cmd
-use Rattle.zr_world.specs.declared.version.VersionName.TheVariants as version
+use Rattle.zr_command.specs.declared.command.Cmd.TheVariants as cmd
+use Rattle.zr_command.specs.declared.version.VersionName.TheVariants as version
 use Rattle.zr_cmd.specs.Words.{IsJob, IsPath, IsVersion, sets_words, versions_words}
 use Rattle.zr_cmd.specs.declared.forms.Call.{Call}
 use Rattle.zr_cmd.specs.declared.forms.Call.TheVariants as call

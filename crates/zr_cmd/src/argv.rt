@@ -2,35 +2,20 @@ ghost use Rattle.std.specs.Prelude.{◌≡◌, ◌≢◌, ◌<◌, [], ◌∷◌
 ghost use Rattle.std.specs.Str.{IsUtf8};
 ghost use Rattle.std.specs.String.{string_bytes};
 ghost use Rattle.zr_names.specs.Marks.{tag_text};
-ghost use Rattle.zr_world.specs.declared.command.Cmd.TheVariants as command;
-ghost use Rattle.zr_world.specs.declared.command.Transfer.{Transfer as TransferValue};
+ghost use Rattle.zr_command.specs.declared.command.Cmd.TheVariants as command;
+ghost use Rattle.zr_command.specs.declared.command.Transfer.{Transfer as TransferValue};
 ghost use Rattle.zr_cmd.specs.declared.forms.Call.TheVariants as call;
-ghost use Rattle.zr_cmd.specs.Words.{
-  AreNamed,
-  argv_words,
-  IsJob,
-  IsNamed,
-  IsPath,
-  IsVersion,
-  IsVersionName,
-  mark_word,
-  send_of,
-  sets_words,
-  snap_word,
-  version_word,
-  versions_words,
-  words_of,
-};
+ghost use Rattle.zr_cmd.specs.Words.{AreNamed, argv_words, IsJob, IsNamed, IsPath, IsVersion, IsVersionName, mark_word, send_of, sets_words, snap_word, version_word, versions_words, words_of};
 
 use crate::cutting::tag_front;
 use crate::words::Words;
 use std::alloc::{AllocError, Global};
 use std::str;
+use zr_command::{Base, Cmd, Transfer, VersionName};
 use zr_names::{JobName, MarkName, NoMemory, Path, SnapName, TagKind};
-use zr_world::{Base, Cmd, Transfer, VersionName};
 
 /// Why words are no call.
-#[derive(Clone, Copy, Debug, PartialEq, Eq)]
+#[derive(Clone, Copy, PartialEq, Eq)]
 pub enum ArgvFault {
     /// The first word is missing or that of no call.
     UnknownCommand,
@@ -51,7 +36,7 @@ impl From<NoMemory> for ArgvFault {
 }
 
 /// The children that a command starts, each by its words.
-#[derive(Debug, Drop)]
+#[derive(Drop)]
 pub enum Argv {
     One(Words),
     /// A sending end into a receiving end.

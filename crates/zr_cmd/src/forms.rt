@@ -1,8 +1,8 @@
+use zr_command::Cmd;
 use zr_names::{MarkName, Path, SnapName};
-use zr_world::Cmd;
 
 /// One call of `zfs`, as its words tell it.
-#[derive(Clone, Debug, PartialEq, Eq, Drop)]
+#[derive(Drop)]
 pub enum Call {
     /// A command that is one call; a transfer is none.
     One(Cmd),
@@ -34,7 +34,7 @@ pub enum Part {
 }
 
 /// How the words of a call are laid out.
-#[derive(Clone, Copy, Debug, PartialEq, Eq)]
+#[derive(Clone, Copy, PartialEq, Eq)]
 pub enum Form {
     Sets,
     Versions,

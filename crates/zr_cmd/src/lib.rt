@@ -11,6 +11,4 @@ pub mod cutting;
 pub mod forms;
 pub mod laws;
 pub mod reading;
-#[cfg(test)]
-mod tests;
 pub mod words;

@@ -13,8 +13,8 @@ use crate::cutting::{
 };
 use crate::forms::{Call, FORMS, Form, Part};
 use std::alloc::Global;
+use zr_command::{Cmd, VersionName};
 use zr_names::{JobName, MarkName, NoMemory, Path, SnapName, TagKind};
-use zr_world::{Cmd, VersionName};
 
 /// Whether a word is as a part of the table has it, behind the word before.
 fn fits(alloc: Global, part: Part, before: &[u8], word: &[u8]) -> Result<bool, NoMemory>
@@ -84,50 +84,97 @@ fn job_of_tag(alloc: Global, words: &[String]) -> Result<JobName, NoMemory>
     job_of(alloc, job_part(word_at(words, 1)))
 }
 
-/// The command of these words of a hold.
-fn hold_as(alloc: Global, words: &[String]) -> Result<Cmd, NoMemory>
+/// The call of these words of a hold.
+fn hold_as(alloc: Global, words: &[String]) -> Result<Call, NoMemory>
     requires { IsNamed (read_as form.Hold (texts words.now)) }
-    ensures { IfOk result (λ command. call.One command ≡ read_as form.Hold (texts words.now)) }
+    ensures { IfOk result (λ given. given ≡ read_as form.Hold (texts words.now)) }
 {
-    Ok(Cmd::Hold(
-        kind_of(words),
-        job_of_tag(alloc, words)?,
-        set_at(alloc, words, 2)?,
-        snap_at(alloc, words, 2)?,
-    ))
+    let job = job_of_tag(alloc, words)?;
+    let path = set_at(alloc, words, 2)?;
+    let name = snap_at(alloc, words, 2)?;
+    Ok(Call::One(Cmd::Hold(kind_of(words), job, path, name)))
 }
 
-/// The command of these words of a release.
-fn release_as(alloc: Global, words: &[String]) -> Result<Cmd, NoMemory>
+/// The call of these words of a release.
+fn release_as(alloc: Global, words: &[String]) -> Result<Call, NoMemory>
     requires { IsNamed (read_as form.Release (texts words.now)) }
-    ensures { IfOk result (λ command. call.One command ≡ read_as form.Release (texts words.now)) }
+    ensures { IfOk result (λ given. given ≡ read_as form.Release (texts words.now)) }
 {
-    Ok(Cmd::Release(
-        kind_of(words),
-        job_of_tag(alloc, words)?,
-        set_at(alloc, words, 2)?,
-        snap_at(alloc, words, 2)?,
-    ))
+    let job = job_of_tag(alloc, words)?;
+    let path = set_at(alloc, words, 2)?;
+    let name = snap_at(alloc, words, 2)?;
+    Ok(Call::One(Cmd::Release(kind_of(words), job, path, name)))
 }
 
-/// The command of these words of a bookmark of a snapshot.
-fn bookmark_snap_as(alloc: Global, words: &[String]) -> Result<Cmd, NoMemory>
+/// The call of these words of a bookmark of a snapshot.
+fn bookmark_snap_as(alloc: Global, words: &[String]) -> Result<Call, NoMemory>
     requires { IsNamed (read_as form.BookmarkSnap (texts words.now)) }
-    ensures { IfOk result (λ command. call.One command ≡ read_as form.BookmarkSnap (texts words.now)) }
+    ensures { IfOk result (λ given. given ≡ read_as form.BookmarkSnap (texts words.now)) }
 {
     let path = set_at(alloc, words, 1)?;
-    let from = VersionName::Snap(snap_at(alloc, words, 1)?);
-    Ok(Cmd::Bookmark(path, from, mark_at(alloc, words, 2)?))
+    let from = snap_at(alloc, words, 1)?;
+    let mark = mark_at(alloc, words, 2)?;
+    Ok(Call::One(Cmd::Bookmark(path, VersionName::Snap(from), mark)))
 }
 
-/// The command of these words of a bookmark of a bookmark.
-fn bookmark_mark_as(alloc: Global, words: &[String]) -> Result<Cmd, NoMemory>
+/// The call of these words of a bookmark of a bookmark.
+fn bookmark_mark_as(alloc: Global, words: &[String]) -> Result<Call, NoMemory>
     requires { IsNamed (read_as form.BookmarkMark (texts words.now)) }
-    ensures { IfOk result (λ command. call.One command ≡ read_as form.BookmarkMark (texts words.now)) }
+    ensures { IfOk result (λ given. given ≡ read_as form.BookmarkMark (texts words.now)) }
 {
     let path = set_at(alloc, words, 1)?;
-    let from = VersionName::Mark(mark_at(alloc, words, 1)?);
-    Ok(Cmd::Bookmark(path, from, mark_at(alloc, words, 2)?))
+    let from = mark_at(alloc, words, 1)?;
+    let mark = mark_at(alloc, words, 2)?;
+    Ok(Call::One(Cmd::Bookmark(path, VersionName::Mark(from), mark)))
+}
+
+/// The call of these words of a listing of versions.
+fn versions_as(alloc: Global, words: &[String]) -> Result<Call, NoMemory>
+    requires { IsNamed (read_as form.Versions (texts words.now)) }
+    ensures { IfOk result (λ given. given ≡ read_as form.Versions (texts words.now)) }
+{
+    let path = path_of(alloc, word_at(words, 11))?;
+    Ok(Call::One(Cmd::Versions(path)))
+}
+
+/// The call of these words of a listing of holds.
+fn holds_as(alloc: Global, words: &[String]) -> Result<Call, NoMemory>
+    requires { IsNamed (read_as form.Holds (texts words.now)) }
+    ensures { IfOk result (λ given. given ≡ read_as form.Holds (texts words.now)) }
+{
+    let path = set_at(alloc, words, 2)?;
+    let name = snap_at(alloc, words, 2)?;
+    Ok(Call::One(Cmd::Holds(path, name)))
+}
+
+/// The call of these words of a destroy of a snapshot.
+fn destroy_snap_as(alloc: Global, words: &[String]) -> Result<Call, NoMemory>
+    requires { IsNamed (read_as form.DestroySnap (texts words.now)) }
+    ensures { IfOk result (λ given. given ≡ read_as form.DestroySnap (texts words.now)) }
+{
+    let path = set_at(alloc, words, 1)?;
+    let name = snap_at(alloc, words, 1)?;
+    Ok(Call::One(Cmd::DestroySnap(path, name)))
+}
+
+/// The call of these words of a destroy of a bookmark.
+fn destroy_mark_as(alloc: Global, words: &[String]) -> Result<Call, NoMemory>
+    requires { IsNamed (read_as form.DestroyMark (texts words.now)) }
+    ensures { IfOk result (λ given. given ≡ read_as form.DestroyMark (texts words.now)) }
+{
+    let path = set_at(alloc, words, 1)?;
+    let mark = mark_at(alloc, words, 1)?;
+    Ok(Call::One(Cmd::DestroyMark(path, mark)))
+}
+
+/// The call of these words of a send of a whole snapshot.
+fn send_full_as(alloc: Global, words: &[String]) -> Result<Call, NoMemory>
+    requires { IsNamed (read_as form.SendFull (texts words.now)) }
+    ensures { IfOk result (λ given. given ≡ read_as form.SendFull (texts words.now)) }
+{
+    let path = set_at(alloc, words, 1)?;
+    let name = snap_at(alloc, words, 1)?;
+    Ok(Call::SendFull(path, name))
 }
 
 /// The call of these words of a send from a bookmark.
@@ -145,24 +192,21 @@ fn call_as(alloc: Global, form: Form, words: &[String]) -> Result<Call, NoMemory
     requires { IsNamed (read_as form (texts words.now)) }
     ensures { IfOk result (λ given. given ≡ read_as form (texts words.now)) }
 {
-    let command = match form {
-        Form::Sets => Cmd::Sets,
-        Form::Versions => Cmd::Versions(path_of(alloc, word_at(words, 11))?),
-        Form::Holds => Cmd::Holds(set_at(alloc, words, 2)?, snap_at(alloc, words, 2)?),
-        Form::Hold => hold_as(alloc, words)?,
-        Form::Release => release_as(alloc, words)?,
-        Form::BookmarkSnap => bookmark_snap_as(alloc, words)?,
-        Form::BookmarkMark => bookmark_mark_as(alloc, words)?,
-        Form::DestroySnap => Cmd::DestroySnap(set_at(alloc, words, 1)?, snap_at(alloc, words, 1)?),
-        Form::DestroyMark => Cmd::DestroyMark(set_at(alloc, words, 1)?, mark_at(alloc, words, 1)?),
-        Form::SendFull => {
-            return Ok(Call::SendFull(set_at(alloc, words, 1)?, snap_at(alloc, words, 1)?));
-        }
-        Form::SendFrom => return send_from_as(alloc, words),
-        Form::Receive => return Ok(Call::Receive(path_of(alloc, word_at(words, 3))?, false)),
-        Form::ReceiveForced => return Ok(Call::Receive(path_of(alloc, word_at(words, 4))?, true)),
-    };
-    Ok(Call::One(command))
+    match form {
+        Form::Sets => Ok(Call::One(Cmd::Sets)),
+        Form::Versions => versions_as(alloc, words),
+        Form::Holds => holds_as(alloc, words),
+        Form::Hold => hold_as(alloc, words),
+        Form::Release => release_as(alloc, words),
+        Form::BookmarkSnap => bookmark_snap_as(alloc, words),
+        Form::BookmarkMark => bookmark_mark_as(alloc, words),
+        Form::DestroySnap => destroy_snap_as(alloc, words),
+        Form::DestroyMark => destroy_mark_as(alloc, words),
+        Form::SendFull => send_full_as(alloc, words),
+        Form::SendFrom => send_from_as(alloc, words),
+        Form::Receive => Ok(Call::Receive(path_of(alloc, word_at(words, 3))?, false)),
+        Form::ReceiveForced => Ok(Call::Receive(path_of(alloc, word_at(words, 4))?, true)),
+    }
 }
 
 /// Reads the words after the program's name, as `argv_of` writes them.

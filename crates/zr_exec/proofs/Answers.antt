@@ -9,18 +9,19 @@ use Rattle.zr_cmd.specs.Words.{AreNamed, argv_words, IsNamed, Spells, words_of}
 use Rattle.zr_cmd.specs.declared.argv.Argv.TheVariants as argv
 use Rattle.zr_cmd.specs.declared.forms.Call.TheVariants as call
 use Rattle.zr_world.specs.Answering.{Answers, Acts, appended, is_no_memory, Logs}
-use Rattle.zr_world.specs.Effect.{go}
-use Rattle.zr_world.specs.Plain.{plain}
-use Rattle.zr_world.specs.declared.command.Answer.{Answer}
-use Rattle.zr_world.specs.declared.command.Answer.TheVariants as answer
-use Rattle.zr_world.specs.declared.command.Cmd.{Cmd}
-use Rattle.zr_world.specs.declared.command.Cmd.TheVariants as cmd
-use Rattle.zr_world.specs.declared.command.Entry.TheVariants as entry
-use Rattle.zr_world.specs.declared.command.Reply.{Reply}
-use Rattle.zr_world.specs.declared.command.Reply.TheVariants as reply
+use Rattle.zr_world.specs.Effect.{go, left_by}
+use Rattle.zr_world.specs.declared.effects.Extent.TheVariants as extent
+use Rattle.zr_command.specs.Plain.{plain}
+use Rattle.zr_command.specs.declared.command.Answer.{Answer}
+use Rattle.zr_command.specs.declared.command.Answer.TheVariants as answer
+use Rattle.zr_command.specs.declared.command.Cmd.{Cmd}
+use Rattle.zr_command.specs.declared.command.Cmd.TheVariants as cmd
+use Rattle.zr_command.specs.declared.command.Entry.TheVariants as entry
+use Rattle.zr_command.specs.declared.command.Reply.{Reply}
+use Rattle.zr_command.specs.declared.command.Reply.TheVariants as reply
 use Rattle.zr_world.specs.declared.pools.Pools.{Pools}
-use Rattle.zr_world.specs.declared.version.SetRow.{SetRow}
-use Rattle.zr_world.specs.declared.version.VersionRow.{VersionRow}
+use Rattle.zr_command.specs.declared.version.SetRow.{SetRow}
+use Rattle.zr_command.specs.declared.version.VersionRow.{VersionRow}
 use Rattle.zr_exec.specs.declared.spawn.Line.{Line}
 use Rattle.zr_exec.specs.declared.spawn.RunExit.{RunExit}
 use Rattle.zr_exec.specs.declared.spawn.RunExit.TheVariants as exit
@@ -32,8 +33,8 @@ use Rattle.zr_exec.specs.Listed as listed
 use Rattle.zr_exec.specs.Recording.{call_line, Records, with_lines}
 use Rattle.zr_exec.specs.Rows.{in_order}
 use Rattle.zr_exec.specs.Serving.{Does, IsReply, Serves}
-use Rattle.zr_exec.proofs.Commands.{command_of-spelled, plain_named}
-use Rattle.zr_exec.proofs.Ends.{does_short}
+use Rattle.zr_exec.specs.Commands.{words_behind}
+use Rattle.zr_exec.proofs.Commands.{behind_itself, command_by-started, plain_named, StartsOne}
 use Rattle.zr_exec.proofs.HoldLines.{hold_of-spelled, IsHoldLine-read}
 use Rattle.zr_exec.proofs.Orders.{in_order-same, in_order-sorted}
 use Rattle.zr_exec.proofs.RowLists.{ReadsLines, rows_in-bad, rows_in-whole}
@@ -41,6 +42,14 @@ use Rattle.zr_exec.proofs.SetLines.{IsSetLine-read, set_row_of-spelled}
 use Rattle.zr_exec.proofs.Told.{begin_told}
 use Rattle.zr_exec.proofs.Unique.{order_unique}
 use Rattle.zr_exec.proofs.VersionLines.{IsVersionLine-read, version_row_of-spelled}
+
+-- what a child did before memory was refused
+pub does_short : (command : Cmd) (before after : Pools) (ended : RunExit) (bytes : List ℕ) → Does command before after ended bytes → Does command before after exit.NoMemory bytes
+does_short command before after exit.Done bytes does = (extent.Whole, ap (left_by before) (sym does.1))
+does_short command before after exit.Nonzero bytes does = does
+does_short command before after exit.Failed bytes does = does
+does_short command before after exit.TooLong bytes does = does
+does_short command before after exit.NoMemory bytes does = does
 
 sets-read : ReadsLines IsSetLine set_row_of
 sets-read = record { spelled = set_row_of-spelled; read = IsSetLine-read }
@@ -144,55 +153,60 @@ answered what exit.NoMemory bytes (answer.Done given) is some = absurd is
 answered what exit.NoMemory bytes (answer.Garbled n) is some = absurd is
 answered what ended bytes answer.NoMemory is some = cc
 
--- the line of a call of a command is read as the command with the answer of its exit and bytes
-call-read : (old new : Option (List Line)) (words : List (List ℕ)) (command : Cmd) (ended : RunExit) (bytes : List ℕ) → Spells words (call.One command) → new ≡ with_lines old (call_line words ended bytes ∷ []) → entries_of new ≡ appended (entries_of old) (entry.Call command (answer_of (listed_by command) ended bytes) ∷ [])
-call-read old new words command ended bytes spelled now =
-    ap entries_of now
-    ∙ begin_told old (call_line words ended bytes)
-    ∙ ap (λ found. appended (entries_of old) (entries_of_call found (record { words = words; exit = ended; written = bytes }))) (command_of-spelled words command spelled)
+-- what runs of a command leave in the record of a runner whose children are those of this program
+module _ (program : List ℕ) where
+  -- the line of a call of a command is read as the command with the answer of its exit and bytes
+  call-read : (old new : Option (List Line)) (all : List (List ℕ)) (command : Cmd) (ended : RunExit) (bytes : List ℕ) → StartsOne program all command → new ≡ with_lines old (call_line all ended bytes ∷ []) → entries_of program new ≡ appended (entries_of program old) (entry.Call command (answer_of (listed_by command) ended bytes) ∷ [])
+  call-read old new all command ended bytes starts now =
+      ap (entries_of program) now
+      ∙ begin_told program old (call_line all ended bytes)
+      ∙ ap (λ found. appended (entries_of program old) (entries_of_call found (record { words = all; exit = ended; written = bytes }))) (command_by-started program all command starts)
 
-told-as : (old new : Option (List Line)) (words : List (List ℕ)) (command : Cmd) (ended : RunExit) (bytes : List ℕ) (given : Answer) → Spells words (call.One command) → new ≡ with_lines old (call_line words ended bytes ∷ []) → IsAnswer (listed_by command) ended bytes given → is_no_memory given ≡ false → entries_of new ≡ appended (entries_of old) (entry.Call command given ∷ [])
-told-as old new words command ended bytes given spelled now is some =
-    call-read old new words command ended bytes spelled now ∙ ap (λ a. appended (entries_of old) (entry.Call command a ∷ [])) (answered (listed_by command) ended bytes given is some)
+  told-as : (old new : Option (List Line)) (all : List (List ℕ)) (command : Cmd) (ended : RunExit) (bytes : List ℕ) (given : Answer) → StartsOne program all command → new ≡ with_lines old (call_line all ended bytes ∷ []) → IsAnswer (listed_by command) ended bytes given → is_no_memory given ≡ false → entries_of program new ≡ appended (entries_of program old) (entry.Call command given ∷ [])
+  told-as old new all command ended bytes given starts now is some =
+      call-read old new all command ended bytes starts now ∙ ap (λ a. appended (entries_of program old) (entry.Call command a ∷ [])) (answered (listed_by command) ended bytes given is some)
 
-told : (old new : Option (List Line)) (words : List (List ℕ)) (command : Cmd) (ended : RunExit) (bytes : List ℕ) (given : Answer) → Spells words (call.One command) → new ≡ with_lines old (call_line words ended bytes ∷ []) → IsAnswer (listed_by command) ended bytes given → Logs (entries_of old) (entries_of new) command given
-told old new words command ended bytes answer.NoMemory spelled now is =
-    inr (answer_of (listed_by command) ended bytes, call-read old new words command ended bytes spelled now)
-told old new words command ended bytes (answer.Done r) spelled now is =
-    told-as old new words command ended bytes (answer.Done r) spelled now is refl
-told old new words command ended bytes answer.Failed spelled now is =
-    told-as old new words command ended bytes answer.Failed spelled now is refl
-told old new words command ended bytes (answer.Garbled n) spelled now is =
-    told-as old new words command ended bytes (answer.Garbled n) spelled now is refl
+  told : (old new : Option (List Line)) (all : List (List ℕ)) (command : Cmd) (ended : RunExit) (bytes : List ℕ) (given : Answer) → StartsOne program all command → new ≡ with_lines old (call_line all ended bytes ∷ []) → IsAnswer (listed_by command) ended bytes given → Logs (entries_of program old) (entries_of program new) command given
+  told old new all command ended bytes answer.NoMemory starts now is =
+      inr (answer_of (listed_by command) ended bytes, call-read old new all command ended bytes starts now)
+  told old new all command ended bytes (answer.Done r) starts now is =
+      told-as old new all command ended bytes (answer.Done r) starts now is refl
+  told old new all command ended bytes answer.Failed starts now is =
+      told-as old new all command ended bytes answer.Failed starts now is refl
+  told old new all command ended bytes (answer.Garbled n) starts now is =
+      told-as old new all command ended bytes (answer.Garbled n) starts now is refl
 
-no-failure : (what : Listed) → IsFailure what exit.NoMemory → ⊥
-no-failure listed.sets is = is
-no-failure (listed.versions path) is = is
-no-failure (listed.holds path name) is = is
-no-failure listed.nothing is = is
+  no-failure : (what : Listed) → IsFailure what exit.NoMemory → ⊥
+  no-failure listed.sets is = is
+  no-failure (listed.versions path) is = is
+  no-failure (listed.holds path name) is = is
+  no-failure listed.nothing is = is
 
-short-told : (old new : Option (List Line)) (words : List (List ℕ)) (command : Cmd) (bytes : List ℕ) (given : Answer) → Spells words (call.One command) → Records old new words exit.NoMemory bytes → IsAnswer (listed_by command) exit.NoMemory bytes given → Logs (entries_of old) (entries_of new) command given
-short-told old new words command bytes answer.NoMemory spelled records is = elim records [
-  | inl same ↦ inl (ap entries_of same)
-  | inr kept ↦ inr (answer_of (listed_by command) kept.0 kept.1, call-read old new words command kept.0 kept.1 spelled kept.2)
-]
-short-told old new words command bytes (answer.Done r) spelled records is = absurd is
-short-told old new words command bytes answer.Failed spelled records is = absurd (no-failure (listed_by command) is)
-short-told old new words command bytes (answer.Garbled n) spelled records is = absurd is
+  short-told : (old new : Option (List Line)) (all : List (List ℕ)) (command : Cmd) (bytes : List ℕ) (given : Answer) → StartsOne program all command → Records old new all exit.NoMemory bytes → IsAnswer (listed_by command) exit.NoMemory bytes given → Logs (entries_of program old) (entries_of program new) command given
+  short-told old new all command bytes answer.NoMemory starts records is = elim records [
+    | inl same ↦ inl (ap (entries_of program) same)
+    | inr kept ↦ inr (answer_of (listed_by command) kept.0 kept.1, call-read old new all command kept.0 kept.1 starts kept.2)
+  ]
+  short-told old new all command bytes (answer.Done r) starts records is = absurd is
+  short-told old new all command bytes answer.Failed starts records is = absurd (no-failure (listed_by command) is)
+  short-told old new all command bytes (answer.Garbled n) starts records is = absurd is
 
-logs : (old new : Option (List Line)) (words : List (List ℕ)) (command : Cmd) (ended : RunExit) (bytes : List ℕ) (given : Answer) → Spells words (call.One command) → Records old new words ended bytes → IsAnswer (listed_by command) ended bytes given → Logs (entries_of old) (entries_of new) command given
-logs old new words command exit.Done bytes given spelled records is = told old new words command exit.Done bytes given spelled records is
-logs old new words command exit.Nonzero bytes given spelled records is = told old new words command exit.Nonzero bytes given spelled records is
-logs old new words command exit.Failed bytes given spelled records is = told old new words command exit.Failed bytes given spelled records is
-logs old new words command exit.TooLong bytes given spelled records is = told old new words command exit.TooLong bytes given spelled records is
-logs old new words command exit.NoMemory bytes given spelled records is = short-told old new words command bytes given spelled records is
+  logs : (old new : Option (List Line)) (all : List (List ℕ)) (command : Cmd) (ended : RunExit) (bytes : List ℕ) (given : Answer) → StartsOne program all command → Records old new all ended bytes → IsAnswer (listed_by command) ended bytes given → Logs (entries_of program old) (entries_of program new) command given
+  logs old new all command exit.Done bytes given starts records is = told old new all command exit.Done bytes given starts records is
+  logs old new all command exit.Nonzero bytes given starts records is = told old new all command exit.Nonzero bytes given starts records is
+  logs old new all command exit.Failed bytes given starts records is = told old new all command exit.Failed bytes given starts records is
+  logs old new all command exit.TooLong bytes given starts records is = told old new all command exit.TooLong bytes given starts records is
+  logs old new all command exit.NoMemory bytes given starts records is = short-told old new all command bytes given starts records is
 
-one-word : (program : List ℕ) (words : List (List ℕ)) (command : Cmd) → argv.One words ≡ argv.One (program ∷ words_of (call.One command)) → IsNamed (call.One command) → Spells (drop 1 words) (call.One command)
+one-word : (program : List ℕ) (words : List (List ℕ)) (command : Cmd) → argv.One words ≡ argv.One (program ∷ words_of (call.One command)) → IsNamed (call.One command) → StartsOne program words command
 one-word program words command same named =
     let whole : words ≡ program ∷ words_of (call.One command) = cc in
-    record { same = ap (drop 1) whole; named = named }
+    record {
+      by = subst (λ (ws : List (List ℕ)). words_behind program ws ≡ Some (drop 1 ws)) (sym whole) (behind_itself program (words_of (call.One command)));
+      spelled = record { same = ap (drop 1) whole; named = named };
+    }
 
-named-words : (program : List ℕ) (command : Cmd) (words : List (List ℕ)) → argv.One words ≡ argv_words program command → AreNamed command → Spells (drop 1 words) (call.One command)
+named-words : (program : List ℕ) (command : Cmd) (words : List (List ℕ)) → argv.One words ≡ argv_words program command → AreNamed command → StartsOne program words command
 named-words program cmd.Sets words same named = one-word program words cmd.Sets same named
 named-words program (cmd.Versions path) words same named = one-word program words (cmd.Versions path) same named
 named-words program (cmd.Holds path name) words same named = one-word program words (cmd.Holds path name) same named
@@ -203,17 +217,19 @@ named-words program (cmd.DestroySnap path name) words same named = one-word prog
 named-words program (cmd.DestroyMark path mark) words same named = one-word program words (cmd.DestroyMark path mark) same named
 named-words program (cmd.Transfer transfer) words same named = cc
 
--- the words behind the program's name are those of the command
-pub one_spelled : (all : List (List ℕ)) (program : List ℕ) (command : Cmd) (words : List (List ℕ)) → all ≡ words → argv.One words ≡ argv_words program command → AreNamed command → Spells (drop 1 all) (call.One command)
-one_spelled all program command words passed same named =
-    subst (λ (ws : List (List ℕ)). Spells (drop 1 ws) (call.One command)) (sym passed) (named-words program command words same named)
+-- the words start a child of the program for the command
+pub one_started : (all : List (List ℕ)) (named_by program : List ℕ) (command : Cmd) (words : List (List ℕ)) → named_by ≡ program → all ≡ words → argv.One words ≡ argv_words named_by command → AreNamed command → StartsOne program all command
+one_started all named_by program command words own passed same named =
+    subst (λ (p : List ℕ). StartsOne p all command) own
+    (subst (λ (ws : List (List ℕ)). StartsOne named_by ws command) (sym passed) (named-words named_by command words same named))
 
 -- what a run of a command leaves in the record, read as commands and answers
-pub run_logs : (first old new : Option (List Line)) (words : List (List ℕ)) (command : Cmd) (ended : RunExit) (bytes : List ℕ) (given : Answer) → old ≡ first → Spells words (call.One command) → Records old new words ended bytes → IsAnswer (listed_by command) ended bytes given → Logs (entries_of first) (entries_of new) (plain command) given
-run_logs first old new words command ended bytes given begun spelled records is =
-    subst (λ (t : Option (List Line)). Logs (entries_of t) (entries_of new) (plain command) given) begun
-    (subst (λ (c : Cmd). Logs (entries_of old) (entries_of new) c given) (sym (plain_named command spelled.named))
-    (logs old new words command ended bytes given spelled records is))
+pub run_logs : (program asked : List ℕ) (first old new : Option (List Line)) (all : List (List ℕ)) (command : Cmd) (ended : RunExit) (bytes : List ℕ) (given : Answer) → program ≡ asked → old ≡ first → StartsOne program all command → Records old new all ended bytes → IsAnswer (listed_by command) ended bytes given → Logs (entries_of asked first) (entries_of program new) (plain command) given
+run_logs program asked first old new all command ended bytes given own begun starts records is =
+    subst (λ (p : List ℕ). Logs (entries_of p first) (entries_of program new) (plain command) given) own
+    (subst (λ (t : Option (List Line)). Logs (entries_of program t) (entries_of program new) (plain command) given) begun
+    (subst (λ (c : Cmd). Logs (entries_of program old) (entries_of program new) c given) (sym (plain_named command starts.spelled.named))
+    (logs program old new all command ended bytes given starts records is)))
 
 one-reply : (what : Listed) (bytes : List ℕ) (one other : Reply) → IsReply what bytes one → IsReply what bytes other → one ≡ other
 one-reply what bytes one other p q =

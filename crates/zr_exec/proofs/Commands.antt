@@ -1,25 +1,19 @@
-use Rattle.std.proofs.Common.{◌≡◌, ℕ, Bool, true, false, List, Option, Some, None, Err, inl, inr, refl, ap, ◌∙◌, sym, subst}
-use Rattle.zr_cmd.proofs.Calls.{found, found-spelled, one-call, read-back}
+use Rattle.std.proofs.Common.{◌≡◌, ℕ, Bool, if◌then◌else◌, List, ◌∷◌, Option, Some, None, drop, refl, ap, ◌∙◌, sym, subst}
+use Rattle.zr_cmd.proofs.Calls.{found, found-spelled, one-call}
 use Rattle.zr_cmd.specs.Calls.{call_of}
-use Rattle.zr_cmd.specs.Words.{IsNamed, Reads, receive_of, send_from, send_of, Spells, words_of}
-use Rattle.zr_cmd.specs.declared.argv.ArgvFault.{ArgvFault}
-use Rattle.zr_cmd.specs.declared.argv.ArgvFault.TheVariants as fault
+use Rattle.zr_cmd.specs.Words.{IsNamed, receive_of, send_from, send_of, Spells, words_of}
 use Rattle.zr_cmd.specs.declared.forms.Call.{Call}
 use Rattle.zr_cmd.specs.declared.forms.Call.TheVariants as call
-use Rattle.zr_world.specs.declared.command.Base.{Base}
-use Rattle.zr_world.specs.declared.command.Base.TheVariants as base
-use Rattle.zr_world.specs.declared.command.Cmd.{Cmd}
-use Rattle.zr_world.specs.declared.command.Cmd.TheVariants as cmd
-use Rattle.zr_world.specs.declared.command.Transfer.{Transfer}
-use Rattle.zr_world.specs.Plain.{no_guid, plain, plain_base, plain_transfer}
-use Rattle.zr_exec.specs.Commands.{command_in, command_of, transfer_in, transfer_of}
-use Rattle.zr_exec.specs.Piping.{Finds, is_unspelled}
+use Rattle.zr_command.specs.declared.command.Base.{Base}
+use Rattle.zr_command.specs.declared.command.Base.TheVariants as base
+use Rattle.zr_command.specs.declared.command.Cmd.{Cmd}
+use Rattle.zr_command.specs.declared.command.Cmd.TheVariants as cmd
+use Rattle.zr_command.specs.declared.command.Transfer.{Transfer}
+use Rattle.zr_command.specs.Plain.{no_guid, plain, plain_base, plain_transfer}
+use Rattle.std.specs.Option.{option_and_then}
+use Rattle.zr_exec.specs.Commands.{command_by, command_in, command_of, transfer_behind, transfer_by, transfer_in, transfer_of, words_behind}
 use Rattle.zr_exec.specs.Serving.{SpellsPipe}
-
-abbrev is_end : Call → Bool
-is_end (call.SendFull path name) = true
-is_end (call.SendFrom path mark name) = true
-is_end other = false
+use Rattle.zr_exec.proofs.Names.{same_itself}
 
 read : (words : List (List ℕ)) (given : Call) → Spells words given → call_of words ≡ Some given
 read words given spelled = ap call_of spelled.same ∙ found given spelled.named
@@ -32,45 +26,12 @@ command_of-spelled words command spelled = ap command_in (read words (call.One c
 pub one_call : (words : List (List ℕ)) (one other : Call) → Spells words one → Spells words other → one ≡ other
 one_call words one other p q = one-call one other p.named q.named (sym p.same ∙ q.same)
 
--- words that spell one end of a transfer spell no command
-one-alone : (words : List (List ℕ)) (end : Call) (command : Cmd) → command_in (Some end) ≡ None → Spells words end → Spells words (call.One command) → ⊥
-one-alone words end command none p q = let same = one_call words end (call.One command) p q in cc
-
--- words that are refused, but for want of memory, spell no call
-pub unread : (words : List (List ℕ)) (why : ArgvFault) (given : Call) → is_unspelled why ≡ true → Reads words (Err why) → Spells words given → ⊥
-unread words fault.UnknownCommand given is reads spelled = elim (read-back words given (Err fault.UnknownCommand) reads spelled) [
-  | inl same ↦ cc
-  | inr same ↦ cc
-]
-unread words (fault.BadWord count) given is reads spelled = reads.1 given spelled
-unread words fault.NoMemory given is reads spelled = cc
-
-sends-none : (sent : Call) (transfer : Transfer) (from : Base) → is_end sent ≡ false → sent ≡ send_from transfer from → ⊥
-sends-none sent transfer base.Full none same = cc
-sends-none sent transfer (base.From mark guid) none same = cc
-
--- no command is the sending end of a transfer
-pub one_sends_none : (command : Cmd) (transfer : Transfer) → call.One command ≡ send_of transfer → ⊥
-one_sends_none command transfer = sends-none (call.One command) transfer transfer.base refl
-
--- no receiving end is a sending end
-pub receive_sends_none : (path : List ℕ) (force : Bool) (transfer : Transfer) → call.Receive path force ≡ send_of transfer → ⊥
-receive_sends_none path force transfer = sends-none (call.Receive path force) transfer transfer.base refl
-
 -- words spell one command at most
 pub one_command : (words : List (List ℕ)) (one other : Cmd) → Spells words (call.One one) → Spells words (call.One other) → one ≡ other
 one_command words one other p q =
     let a = command_of-spelled words one p in
     let b = command_of-spelled words other q in
     cc
-
--- the command that a call is, by what words spell
-pub found_command : (words : List (List ℕ)) (found : Option Call) → Finds (Spells words) found → Finds (λ (given : Cmd). Spells words (call.One given)) (command_in found)
-found_command words None none = λ other spelled. none (call.One other) spelled
-found_command words (Some (call.One command)) spelled = spelled
-found_command words (Some (call.SendFull path name)) spelled = λ other one. absurd (one-alone words (call.SendFull path name) other refl spelled one)
-found_command words (Some (call.SendFrom path mark name)) spelled = λ other one. absurd (one-alone words (call.SendFrom path mark name) other refl spelled one)
-found_command words (Some (call.Receive path force)) spelled = λ other one. absurd (one-alone words (call.Receive path force) other refl spelled one)
 
 -- words that are read as a command are its words
 pub words_of-read : (words : List (List ℕ)) (command : Cmd) → command_of words ≡ Some command → words ≡ words_of (call.One command)
@@ -115,3 +76,30 @@ plain_named (cmd.Bookmark path from mark) named = refl
 plain_named (cmd.DestroySnap path name) named = refl
 plain_named (cmd.DestroyMark path mark) named = refl
 plain_named (cmd.Transfer transfer) named = absurd named
+
+-- the words start a child of this program for the command
+pub record StartsOne (program : List ℕ) (all : List (List ℕ)) (command : Cmd) : Type 0 where
+  pub by : words_behind program all ≡ Some (drop 1 all)
+  pub spelled : Spells (drop 1 all) (call.One command)
+
+-- the words start two children of this program, the ends of the transfer
+pub record StartsEnds (program : List ℕ) (send receive : List (List ℕ)) (transfer : Transfer) : Type 0 where
+  pub send_by : words_behind program send ≡ Some (drop 1 send)
+  pub receive_by : words_behind program receive ≡ Some (drop 1 receive)
+  pub spelled : SpellsPipe (drop 1 send) (drop 1 receive) transfer
+
+-- behind a program's own name stand the other words
+pub behind_itself : (program : List ℕ) (words : List (List ℕ)) → words_behind program (program ∷ words) ≡ Some words
+behind_itself program words = ap (λ (b : Bool). if b then Some words else None) (same_itself program)
+
+-- what is started for a command is read as it
+pub command_by-started : (program : List ℕ) (all : List (List ℕ)) (command : Cmd) → StartsOne program all command → command_by program all ≡ Some command
+command_by-started program all command starts =
+    ap (option_and_then command_of) starts.by ∙ command_of-spelled (drop 1 all) command starts.spelled
+
+-- what is started for a transfer is read as it, without guids
+pub transfer_by-started : (program : List ℕ) (send receive : List (List ℕ)) (transfer : Transfer) → StartsEnds program send receive transfer → transfer_by program send receive ≡ Some (plain_transfer transfer)
+transfer_by-started program send receive transfer starts =
+    ap (λ s. transfer_behind s (words_behind program receive)) starts.send_by
+    ∙ ap (transfer_behind (Some (drop 1 send))) starts.receive_by
+    ∙ transfer_of-spelled (drop 1 send) (drop 1 receive) transfer starts.spelled

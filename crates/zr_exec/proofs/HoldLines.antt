@@ -2,8 +2,9 @@ use Rattle.std.proofs.Common.{◌≡◌, ◌&&◌, ℕ, true, false, not, List, 
 use Rattle.zr_names.specs.Names.{IsName, tag_is_bad}
 use Rattle.zr_names.specs.declared.names.TheConstants.{NAME_LIMIT}
 use Rattle.zr_listing.specs.Columns.{columns, full_name, IsHoldLine}
-use Rattle.zr_world.specs.declared.version.VersionName.TheVariants.{Snap}
-use Rattle.zr_exec.specs.Columns.{hold_in, hold_of, is_name, same_text}
+use Rattle.zr_command.specs.declared.version.VersionName.TheVariants.{Snap}
+use Rattle.zr_exec.specs.Columns.{hold_in, hold_of, is_name}
+use Rattle.zr_command.specs.Names.{same_text}
 use Rattle.zr_exec.proofs.Names.{and-both, IsName-from, is_name-passes, nonempty, not-true, same_itself, same_once}
 use Rattle.zr_exec.proofs.SetLines.{filled, if-some}
 

@@ -7,7 +7,8 @@ use Rattle.std.proofs.lemmas.Cmp.{nat_list_eq_equiv}
 use Rattle.std.proofs.lemmas.Fmt.{decimal_is_IsNumeral}
 use Rattle.zr_names.specs.Names.{IsName}
 use Rattle.zr_listing.specs.Columns.{IsNumber}
-use Rattle.zr_exec.specs.Columns.{has_bad_place, is_name, is_number, number_in, same_text}
+use Rattle.zr_exec.specs.Columns.{has_bad_place, is_name, is_number, number_in}
+use Rattle.zr_command.specs.Names.{same_text}
 
 pub and-both : (x y : Bool) → (x && y) ≡ true → (x ≡ true) × (y ≡ true)
 and-both true true e = (refl, refl)

@@ -5,7 +5,7 @@ use Rattle.std.specs.Ordering.{is_lt}
 use Rattle.std.proofs.lemmas.List.Sorted.{IsPermutation-refl, IsPermutation-cons, IsPermutation-swap, IsPermutation-trans}
 use Rattle.zr_listing.specs.Order.{row_cmp}
 use Rattle.zr_listing.proofs.Sorting.{row_ranks}
-use Rattle.zr_world.specs.declared.version.VersionRow.{VersionRow}
+use Rattle.zr_command.specs.declared.version.VersionRow.{VersionRow}
 use Rattle.zr_exec.specs.Rows.{in_order, in_place}
 
 -- each row is not below the one before it

@@ -5,7 +5,7 @@ use Rattle.std.specs.Option.{option_map_or}
 use Rattle.std.proofs.lemmas.List.{append-nil, get_or_append_left, get_or_at}
 use Rattle.std.proofs.lemmas.List.Folds.{Any-from_list_any, list_any-from_Any}
 use Rattle.zr_listing.specs.Lines.{IsFirstBad, Lines, lines_of, NamesDiffer}
-use Rattle.zr_exec.specs.Columns.{same_text}
+use Rattle.zr_command.specs.Names.{same_text}
 use Rattle.zr_exec.specs.Rows.{is_listed, rows_in}
 use Rattle.zr_exec.proofs.Names.{not-false, not_same, same_itself, same_once}
 

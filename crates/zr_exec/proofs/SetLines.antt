@@ -3,8 +3,9 @@ use Rattle.std.specs.Prelude.{codes, if◌then◌else◌}
 use Rattle.zr_names.specs.Names.{IsName, path_is_bad, token_is_bad}
 use Rattle.zr_names.specs.declared.names.TheConstants.{PATH_LIMIT, TOKEN_LIMIT}
 use Rattle.zr_listing.specs.Columns.{columns, IsSetLine, IsToken}
-use Rattle.zr_world.specs.declared.version.SetRow.{SetRow}
-use Rattle.zr_exec.specs.Columns.{is_name, is_token_column, same_text, set_of, set_row_of, token_in}
+use Rattle.zr_command.specs.declared.version.SetRow.{SetRow}
+use Rattle.zr_exec.specs.Columns.{is_name, is_token_column, set_of, set_row_of, token_in}
+use Rattle.zr_command.specs.Names.{same_text}
 use Rattle.zr_exec.proofs.Names.{and-both, IsName-from, is_name-passes, nonempty, not-true, not_same, same_itself, same_once}
 
 pub if-some : {X : Type 0} (b : Bool) (x y : X) → (if b then Some x else None) ≡ Some y → (b ≡ true) × (x ≡ y)

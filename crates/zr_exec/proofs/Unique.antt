@@ -6,11 +6,12 @@ use Rattle.std.specs.declared.cmp.Ordering.TheVariants.{Less, Equal, Greater}
 use Rattle.std.proofs.lemmas.Bool.Decides.{nat_tests}
 use Rattle.std.proofs.lemmas.List.Elements.{All-head, All-tail}
 use Rattle.std.proofs.lemmas.List.Sorted.{Contains-permutation, IsPermutation-sym}
-use Rattle.zr_names.proofs.Lists.{AllPairs-head, AllPairs-tail}
-use Rattle.zr_world.specs.Pools.{is_below, name_is_below, stands_before}
-use Rattle.zr_world.specs.declared.version.VersionName.{VersionName}
-use Rattle.zr_world.specs.declared.version.VersionName.TheVariants.{Snap, Mark}
-use Rattle.zr_world.specs.declared.version.VersionRow.{VersionRow}
+use Rattle.zr_base.proofs.Lists.{AllPairs-head, AllPairs-tail}
+use Rattle.zr_command.specs.Names.{is_below, name_is_below}
+use Rattle.zr_command.specs.Listings.{stands_before}
+use Rattle.zr_command.specs.declared.version.VersionName.{VersionName}
+use Rattle.zr_command.specs.declared.version.VersionName.TheVariants.{Snap, Mark}
+use Rattle.zr_command.specs.declared.version.VersionRow.{VersionRow}
 use Rattle.zr_exec.proofs.Names.{and-both}
 
 both-ways : (o back : Ordering) → back ≡ ordering_reverse o → is_lt o ≡ true → is_lt back ≡ true → ⊥

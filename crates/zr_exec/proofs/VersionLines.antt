@@ -6,10 +6,11 @@ use Rattle.std.proofs.lemmas.List.{take-append-drop}
 use Rattle.zr_names.specs.Names.{IsName, name_is_bad}
 use Rattle.zr_names.specs.declared.names.TheConstants.{NAME_LIMIT}
 use Rattle.zr_listing.specs.Columns.{columns, IsRefs, IsSuffix, IsVersionLine, IsVersionName}
-use Rattle.zr_world.specs.declared.version.VersionName.{VersionName}
-use Rattle.zr_world.specs.declared.version.VersionName.TheVariants.{Snap, Mark}
-use Rattle.zr_world.specs.declared.version.VersionRow.{VersionRow}
-use Rattle.zr_exec.specs.Columns.{is_name, is_number, is_refs, name_behind, name_in, number_in, refs_in, same_text, version_named, version_of, version_row_of}
+use Rattle.zr_command.specs.declared.version.VersionName.{VersionName}
+use Rattle.zr_command.specs.declared.version.VersionName.TheVariants.{Snap, Mark}
+use Rattle.zr_command.specs.declared.version.VersionRow.{VersionRow}
+use Rattle.zr_exec.specs.Columns.{is_name, is_number, is_refs, name_behind, name_in, number_in, refs_in, version_named, version_of, version_row_of}
+use Rattle.zr_command.specs.Names.{same_text}
 use Rattle.zr_exec.proofs.Names.{and-both, IsName-from, is_name-passes, IsNumber-from, number-read, same_itself, same_once}
 use Rattle.zr_exec.proofs.SetLines.{if-some}
 

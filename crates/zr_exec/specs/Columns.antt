@@ -1,17 +1,14 @@
-use Rattle.std.specs.Prelude.{◌==◌, ◌&&◌, ◌||◌, ℕ, zero, suc, ◌^◌, Bool, false, not, if◌then◌else◌, List, [], ◌∷◌, Option, Some, None, codes, drop, length, nat_eq, nat_le, nat_lt, take}
-use Rattle.std.specs.Cmp.Lexicographic.{pointwise}
+use Rattle.std.specs.Prelude.{◌==◌, ◌&&◌, ◌||◌, ℕ, zero, suc, ◌^◌, Bool, false, not, if◌then◌else◌, List, [], ◌∷◌, Option, Some, None, codes, drop, length, nat_le, nat_lt, take}
 use Rattle.std.specs.Fmt.{decimal}
 use Rattle.std.specs.Str.Parse.{digits_value}
 use Rattle.zr_names.specs.Names.{name_is_bad, path_is_bad, tag_is_bad, token_is_bad}
 use Rattle.zr_names.specs.declared.names.TheConstants.{NAME_LIMIT, PATH_LIMIT, TOKEN_LIMIT}
 use Rattle.zr_listing.specs.Columns.{columns, full_name}
-use Rattle.zr_world.specs.declared.version.SetRow.{SetRow}
-use Rattle.zr_world.specs.declared.version.VersionName.{VersionName}
-use Rattle.zr_world.specs.declared.version.VersionName.TheVariants.{Snap, Mark}
-use Rattle.zr_world.specs.declared.version.VersionRow.{VersionRow}
-
-abbrev pub same_text : List ℕ → List ℕ → Bool
-same_text one other = pointwise nat_eq one other
+use Rattle.zr_command.specs.Names.{same_text}
+use Rattle.zr_command.specs.declared.version.SetRow.{SetRow}
+use Rattle.zr_command.specs.declared.version.VersionName.{VersionName}
+use Rattle.zr_command.specs.declared.version.VersionName.TheVariants.{Snap, Mark}
+use Rattle.zr_command.specs.declared.version.VersionRow.{VersionRow}
 
 -- one of the first places is bad
 abbrev pub has_bad_place : (List ℕ → ℕ → Bool) → List ℕ → ℕ → Bool

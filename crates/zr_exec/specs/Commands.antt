@@ -1,11 +1,13 @@
-use Rattle.std.specs.Prelude.{ℕ, List, Option, Some, None}
+use Rattle.std.specs.Prelude.{ℕ, List, [], ◌∷◌, Option, Some, None, if◌then◌else◌}
+use Rattle.std.specs.Option.{option_and_then}
 use Rattle.zr_cmd.specs.Calls.{call_of}
 use Rattle.zr_cmd.specs.declared.forms.Call.{Call}
 use Rattle.zr_cmd.specs.declared.forms.Call.TheVariants as call
-use Rattle.zr_world.specs.declared.command.Base.TheVariants as base
-use Rattle.zr_world.specs.declared.command.Cmd.{Cmd}
-use Rattle.zr_world.specs.declared.command.Transfer.{Transfer}
-use Rattle.zr_world.specs.Plain.{no_guid}
+use Rattle.zr_command.specs.declared.command.Base.TheVariants as base
+use Rattle.zr_command.specs.declared.command.Cmd.{Cmd}
+use Rattle.zr_command.specs.declared.command.Transfer.{Transfer}
+use Rattle.zr_command.specs.Names.{same_text}
+use Rattle.zr_command.specs.Plain.{no_guid}
 
 -- the command that is one call
 abbrev pub command_in : Option Call → Option Cmd
@@ -34,3 +36,20 @@ transfer_in send receive = None
 -- the transfer whose words these are
 abbrev pub transfer_of : List (List ℕ) → List (List ℕ) → Option Transfer
 transfer_of send receive = transfer_in (call_of send) (call_of receive)
+
+-- the words behind the program's name, where it is this program that was started
+abbrev pub words_behind : List ℕ → List (List ℕ) → Option (List (List ℕ))
+words_behind program [] = None
+words_behind program (name ∷ words) = if same_text name program then Some words else None
+
+-- the command that a child of this program with these words is
+abbrev pub command_by : List ℕ → List (List ℕ) → Option Cmd
+command_by program words = option_and_then command_of (words_behind program words)
+
+abbrev pub transfer_behind : Option (List (List ℕ)) → Option (List (List ℕ)) → Option Transfer
+transfer_behind (Some send) (Some receive) = transfer_of send receive
+transfer_behind send receive = None
+
+-- the transfer that two children of this program with these words are
+abbrev pub transfer_by : List ℕ → List (List ℕ) → List (List ℕ) → Option Transfer
+transfer_by program send receive = transfer_behind (words_behind program send) (words_behind program receive)

@@ -7,22 +7,22 @@ use Rattle.zr_exec.specs.declared.spawn.RunExit.{RunExit}
 use Rattle.zr_exec.specs.declared.spawn.RunExit.TheVariants as exit
 use Rattle.zr_exec.specs.Answering.{newlines, pipe_answer}
 use Rattle.zr_exec.specs.Columns.{hold_of, set_row_of, version_row_of}
-use Rattle.zr_exec.specs.Commands.{command_of, transfer_of}
+use Rattle.zr_exec.specs.Commands.{command_by, transfer_by}
 use Rattle.zr_exec.specs.Listed.{Listed, listed_by}
 use Rattle.zr_exec.specs.Listed as listed
 use Rattle.zr_exec.specs.Rows.{in_order, rows_in}
 use Rattle.zr_listing.specs.Columns.{full_name}
 use Rattle.zr_listing.specs.Lines.{lines_of}
-use Rattle.zr_world.specs.declared.command.Answer.{Answer}
-use Rattle.zr_world.specs.declared.command.Answer.TheVariants as answer
-use Rattle.zr_world.specs.declared.command.Cmd.{Cmd}
-use Rattle.zr_world.specs.declared.command.Cmd.TheVariants as cmd
-use Rattle.zr_world.specs.declared.command.Entry.{Entry}
-use Rattle.zr_world.specs.declared.command.Entry.TheVariants as entry
-use Rattle.zr_world.specs.declared.command.Reply.{Reply}
-use Rattle.zr_world.specs.declared.command.Reply.TheVariants as reply
-use Rattle.zr_world.specs.declared.command.Transfer.{Transfer}
-use Rattle.zr_world.specs.declared.version.VersionRow.{VersionRow}
+use Rattle.zr_command.specs.declared.command.Answer.{Answer}
+use Rattle.zr_command.specs.declared.command.Answer.TheVariants as answer
+use Rattle.zr_command.specs.declared.command.Cmd.{Cmd}
+use Rattle.zr_command.specs.declared.command.Cmd.TheVariants as cmd
+use Rattle.zr_command.specs.declared.command.Entry.{Entry}
+use Rattle.zr_command.specs.declared.command.Entry.TheVariants as entry
+use Rattle.zr_command.specs.declared.command.Reply.{Reply}
+use Rattle.zr_command.specs.declared.command.Reply.TheVariants as reply
+use Rattle.zr_command.specs.declared.command.Transfer.{Transfer}
+use Rattle.zr_command.specs.declared.version.VersionRow.{VersionRow}
 
 -- the answer by the rows of a listing, or by its first bad line
 abbrev pub rows_answer : {Row : Type 0} → (List Row → Reply) → Result (List Row) ℕ → Answer
@@ -54,22 +54,22 @@ answer_of what exit.TooLong bytes = cut_answer what bytes
 answer_of what exit.NoMemory bytes = answer.NoMemory
 answer_of what ended bytes = answer.Failed
 
--- a call is that of the command whose words it has; of words that are no command's there is no entry
+-- a call is that of the command whose words it has; a child of other words, or of another program, is a stray
 abbrev pub entries_of_call : Option Cmd → Call → List Entry
-entries_of_call None call = []
+entries_of_call None call = entry.Stray ∷ []
 entries_of_call (Some command) call =
     entry.Call command (answer_of (listed_by command) call.exit call.written) ∷ []
 
--- a pipe is the transfer whose words it has, as these tell it; of words that are no transfer's there is no entry
+-- a pipe is the transfer whose words it has, as these tell it; children of other words, or of another program, are strays
 abbrev pub entries_of_pipe : Option Transfer → Piped → List Entry
-entries_of_pipe None pipe = []
+entries_of_pipe None pipe = entry.Stray ∷ []
 entries_of_pipe (Some transfer) pipe = entry.Call (cmd.Transfer transfer) (pipe_answer pipe.exit) ∷ []
 
-abbrev pub entries_of_line : Line → List Entry
-entries_of_line (line.Begin unit run) = entry.Begin unit run ∷ []
-entries_of_line (line.Call call) = entries_of_call (command_of call.words) call
-entries_of_line (line.Pipe pipe) = entries_of_pipe (transfer_of pipe.send pipe.receive) pipe
+abbrev pub entries_of_line : List ℕ → Line → List Entry
+entries_of_line program (line.Begin unit run) = entry.Begin unit run ∷ []
+entries_of_line program (line.Call call) = entries_of_call (command_by program call.words) call
+entries_of_line program (line.Pipe pipe) = entries_of_pipe (transfer_by program pipe.send pipe.receive) pipe
 
--- the record of a runner of children, read as commands and answers
-abbrev pub entries_of : Option (List Line) → Option (List Entry)
-entries_of told = option_map (λ lines. flat_map entries_of_line lines) told
+-- the record of a runner of children, read as commands of this program and their answers; the program stands first
+abbrev pub entries_of : List ℕ → Option (List Line) → Option (List Entry)
+entries_of program told = option_map (λ lines. entry.Program program ∷ flat_map (entries_of_line program) lines) told

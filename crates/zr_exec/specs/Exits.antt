@@ -1,5 +1,5 @@
 use Rattle.std.specs.Prelude.{◌≡◌, ◌≤◌, ℕ, Bool, true, false}
-use Rattle.zr_names.specs.Count.{Rose}
+use Rattle.zr_base.specs.Count.{Rose}
 use Rattle.zr_exec.specs.declared.spawn.PipeExit.{PipeExit}
 use Rattle.zr_exec.specs.declared.spawn.PipeExit.TheVariants as piped
 use Rattle.zr_exec.specs.declared.spawn.RunExit.{RunExit}

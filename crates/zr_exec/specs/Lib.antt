@@ -4,8 +4,7 @@ pub mod Commands
 pub mod Entries
 pub mod Exits
 pub mod Listed
-pub mod Piping
 pub mod Recording
 pub mod Rows
+pub mod Running
 pub mod Serving
-pub mod Stored

@@ -1,6 +1,6 @@
 use Rattle.std.specs.Prelude.{ℕ, List}
-use Rattle.zr_world.specs.declared.command.Cmd.{Cmd}
-use Rattle.zr_world.specs.declared.command.Cmd.TheVariants as cmd
+use Rattle.zr_command.specs.declared.command.Cmd.{Cmd}
+use Rattle.zr_command.specs.declared.command.Cmd.TheVariants as cmd
 
 -- what a child is to write: a listing of datasets, of versions or of holds, or nothing
 pub data Listed : Type 0 where

@@ -2,9 +2,9 @@ use Rattle.std.specs.Prelude.{ℕ, ◌+◌, Bool, if◌then◌else◌, List, [],
 use Rattle.std.specs.List.{list_any}
 use Rattle.std.specs.Option.{option_map_or}
 use Rattle.std.specs.Ordering.{is_lt}
-use Rattle.zr_exec.specs.Columns.{same_text}
+use Rattle.zr_command.specs.Names.{same_text}
 use Rattle.zr_listing.specs.Order.{row_cmp}
-use Rattle.zr_world.specs.declared.version.VersionRow.{VersionRow}
+use Rattle.zr_command.specs.declared.version.VersionRow.{VersionRow}
 
 -- a row of this name stands among the rows
 abbrev pub is_listed : {Row : Type 0} → (Row → List ℕ) → List Row → List ℕ → Bool

@@ -1,23 +1,22 @@
-use Rattle.std.specs.Prelude.{◌≡◌, ℕ, true, List, Option, Some, None, ⊤, ◌⊎◌, is_some}
+use Rattle.std.specs.Prelude.{◌≡◌, ℕ, List, Option, Some, None, ⊤, ◌⊎◌}
 use Rattle.zr_cmd.specs.Words.{receive_of, send_of, Spells}
 use Rattle.zr_cmd.specs.declared.forms.Call.TheVariants as call
 use Rattle.zr_exec.specs.declared.spawn.PipeExit.{PipeExit}
 use Rattle.zr_exec.specs.declared.spawn.PipeExit.TheVariants as piped
 use Rattle.zr_exec.specs.declared.spawn.RunExit.{RunExit}
-use Rattle.zr_exec.specs.declared.spawn.RunExit.TheVariants.{Done, Nonzero, Failed}
+use Rattle.zr_exec.specs.declared.spawn.RunExit.TheVariants.{Done}
 use Rattle.zr_exec.specs.Listed.{Listed, listed_by}
 use Rattle.zr_exec.specs.Listed as listed
 use Rattle.zr_listing.specs.Listing.{IsHoldListing, IsSetListing, IsVersionListing}
-use Rattle.zr_listing.specs.Printing.{MarksAreFree}
-use Rattle.zr_world.specs.declared.command.Cmd.{Cmd}
-use Rattle.zr_world.specs.declared.command.Cmd.TheVariants as cmd
-use Rattle.zr_world.specs.declared.command.Reply.{Reply}
-use Rattle.zr_world.specs.declared.command.Reply.TheVariants as reply
-use Rattle.zr_world.specs.declared.command.Transfer.{Transfer}
+use Rattle.zr_command.specs.declared.command.Cmd.{Cmd}
+use Rattle.zr_command.specs.declared.command.Cmd.TheVariants as cmd
+use Rattle.zr_command.specs.declared.command.Reply.{Reply}
+use Rattle.zr_command.specs.declared.command.Reply.TheVariants as reply
+use Rattle.zr_command.specs.declared.command.Transfer.{Transfer}
 use Rattle.zr_world.specs.declared.effects.Extent.{Extent}
 use Rattle.zr_world.specs.declared.pools.Pools.{Pools}
 use Rattle.zr_world.specs.Effect.{Effect, step, go}
-use Rattle.zr_world.specs.Reasons.{first_that_applies, refusal, source_reasons}
+use Rattle.zr_world.specs.Reasons.{first_that_applies, source_reasons}
 
 -- the bytes are a child's that gives this reply: the listing of these rows, and where nothing is listed any bytes
 abbrev pub IsReply : Listed → List ℕ → Reply → Type 0
@@ -26,11 +25,6 @@ IsReply (listed.versions path) bytes (reply.Versions rows) = IsVersionListing pa
 IsReply (listed.holds path name) bytes (reply.Holds tags) = IsHoldListing path name bytes tags
 IsReply listed.nothing bytes reply.Nothing = ⊤
 IsReply what bytes given = ⊥
-
--- the reply counts no holds at a bookmark
-abbrev pub AreFree : Reply → Type 0
-AreFree (reply.Versions rows) = MarksAreFree rows
-AreFree given = ⊤
 
 -- a child that ended well did the whole command and wrote its reply; after every other end the command may have had any
 -- extent
@@ -44,12 +38,6 @@ Does command before after exit bytes = (some : Extent) × Effect before command 
 pub record DoesWords (words : List (List ℕ)) (before after : Pools) (exit : RunExit) (bytes : List ℕ) : Type 0 where
   pub command : (given : Cmd) → Spells words (call.One given) → Does given before after exit bytes
   pub nothing : ((given : Cmd) → Spells words (call.One given) → ⊥) → after ≡ before
-
--- a child that no plan fails ends with another status only where its command is refused, and nothing else ends it
-abbrev pub EndsUnplanned : Cmd → Pools → RunExit → Type 0
-EndsUnplanned command before Nonzero = is_some (refusal before command) ≡ true
-EndsUnplanned command before Failed = ⊥
-EndsUnplanned command before exit = ⊤
 
 -- where a runner tells its pools, its children work on these
 abbrev pub Serves : List (List ℕ) → Option Pools → Option Pools → RunExit → List ℕ → Type 0
@@ -67,13 +55,6 @@ pub record SpellsPipe (send receive : List (List ℕ)) (transfer : Transfer) : T
 pub record PipeGives (send receive : List (List ℕ)) (pools : Pools) (transfer : Transfer) : Type 0 where
   pub spelled : SpellsPipe send receive transfer
   pub stands : first_that_applies (source_reasons pools (cmd.Transfer transfer)) ≡ None
-
--- the words of a pipe give no transfer on these pools, or one that is refused
-abbrev pub IsVain : List (List ℕ) → List (List ℕ) → Pools → Type 0
-IsVain send receive before =
-    ((transfer : Transfer) → PipeGives send receive before transfer → ⊥)
-    ⊎ ((transfer : Transfer) × PipeGives send receive before transfer
-    × (is_some (refusal before (cmd.Transfer transfer)) ≡ true))
 
 -- a transfer whose pipe ended well came whole, and after every other end it may have come at any extent
 abbrev pub DoesTransfer : Transfer → Pools → Pools → PipeExit → Type 0

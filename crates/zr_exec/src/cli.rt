@@ -7,12 +7,13 @@ use crate::spawn::{LISTING_LIMIT, PipeExit, RunExit, Spawn};
 use std::alloc::Global;
 use std::marker::Model;
 use zr_cmd::{Argv, argv_of};
+use zr_command::{Answer, Cmd, Reply};
 use zr_listing::{ListFault, read_holds, read_sets, read_versions};
 use zr_names::{NoMemory, Path, Rows, Unit};
-use zr_world::{Answer, Cmd, Reply, Zfs};
+use zr_world::Zfs;
 
-/// A runner of ZFS commands that starts a child for each, for a transfer two in a pipe, and reads what they write. Contracts see it as its
-/// runner of children.
+/// A runner of ZFS commands that starts a child of its program for each, for a transfer two in a pipe, and reads what
+/// they write.
 #[derive(Drop)]
 pub struct CliZfs<S> {
     spawn: S,
@@ -20,26 +21,30 @@ pub struct CliZfs<S> {
 }
 
 impl<S> Model for CliZfs<S> {
-    ghost Value = { S };
+    ghost use Rattle.std.specs.String.{string_bytes};
+    ghost use Rattle.zr_exec.specs.Running.{Running, running_code};
 
-    ghost coded = { S.code };
+    ghost Value = { Running S };
 
-    ghost view = { λ c. c.spawn };
+    ghost coded = { running_code S.code };
+
+    ghost view = { λ c. record { program = string_bytes c.program; children = c.spawn } };
 }
 
 impl<S> CliZfs<S> {
     ghost use Rattle.std.specs.Prelude.{◌≡◌};
+    ghost use Rattle.std.specs.String.{string_bytes};
 
     /// A runner whose children are those of this program, as `zfs`.
     pub fn new(spawn: S, program: String) -> CliZfs<S>
-        ensures { result ≡ spawn }
+        ensures { result ≡ record { program = string_bytes program; children = spawn } }
     {
         CliZfs { spawn, program }
     }
 
     /// The runner of children.
     pub fn spawn(self) -> S
-        ensures { result ≡ self }
+        ensures { result ≡ self.children }
     {
         let CliZfs { spawn, program: _ } = self;
         spawn
@@ -125,11 +130,11 @@ fn piped(exit: PipeExit) -> Answer
 impl<S: Spawn> Zfs for CliZfs<S> {
     ghost use Rattle.zr_exec.specs.Entries.{entries_of};
 
-    ghost faults = { λ c. S.faults c };
+    ghost faults = { λ c. S.faults c.children };
 
-    ghost pools = { λ c. S.pools c };
+    ghost pools = { λ c. S.pools c.children };
 
-    ghost told = { λ c. entries_of (S.told c) };
+    ghost told = { λ c. entries_of c.program (S.told c.children) };
 
     #[tactic(auto, using(crate::proofs::Told::begin_told))]
     fn begin(&mut self, unit: &Unit, run: u64) -> Result<(), NoMemory> {

@@ -1,3 +1,4 @@
+ghost use Rattle.zr_exec.specs.declared.spawn.TheConstants.{LISTING_LIMIT};
 ghost use Rattle.std.specs.Prelude.{◌≡◌, List, Some, false, ℕ};
 ghost use Rattle.zr_cmd.specs.Words.{Spells, words_of};
 ghost use Rattle.zr_cmd.specs.declared.forms.Call.TheVariants as call;
@@ -8,10 +9,10 @@ ghost use Rattle.zr_exec.specs.Listed.{listed_by};
 ghost use Rattle.zr_exec.specs.Serving.{SpellsPipe};
 ghost use Rattle.zr_exec.specs.declared.spawn.RunExit.{RunExit};
 ghost use Rattle.zr_world.specs.Answering.{is_no_memory};
-ghost use Rattle.zr_world.specs.Plain.{plain_transfer};
-ghost use Rattle.zr_world.specs.declared.command.Answer.{Answer};
-ghost use Rattle.zr_world.specs.declared.command.Cmd.{Cmd};
-ghost use Rattle.zr_world.specs.declared.command.Transfer.{Transfer};
+ghost use Rattle.zr_command.specs.Plain.{plain_transfer};
+ghost use Rattle.zr_command.specs.declared.command.Answer.{Answer};
+ghost use Rattle.zr_command.specs.declared.command.Cmd.{Cmd};
+ghost use Rattle.zr_command.specs.declared.command.Transfer.{Transfer};
 
 /// A recorded call is read as the one command whose words it has, and with the one answer that the rule
 /// for its exit and its bytes allows; a recorded pipe as the one transfer whose words it has, without guids.
@@ -25,4 +26,9 @@ pub fn calls_are_read_by_the_rule()
     ensures answer { (command : Cmd) (ended : RunExit) (bytes : List ℕ) (given : Answer) →
         IsAnswer (listed_by command) ended bytes given → is_no_memory given ≡ false →
         answer_of (listed_by command) ended bytes ≡ given }
+{}
+
+/// The most bytes of what a child writes that are read: 32 MiB.
+pub fn listing_limit()
+    ensures { LISTING_LIMIT ≡ 33554432 }
 {}

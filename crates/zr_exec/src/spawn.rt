@@ -9,7 +9,7 @@ ghost use Rattle.zr_world.specs.declared.pools.Pools.{Pools as PoolsValue};
 use zr_names::{Bytes, NoMemory, Rows, Unit};
 
 /// How a child ended.
-#[derive(Clone, Copy, Debug, PartialEq, Eq)]
+#[derive(Clone, Copy, PartialEq, Eq)]
 pub enum RunExit {
     /// By itself, with status 0.
     Done,
@@ -23,7 +23,7 @@ pub enum RunExit {
 }
 
 /// How the two children of a pipe ended.
-#[derive(Clone, Copy, Debug, PartialEq, Eq)]
+#[derive(Clone, Copy, PartialEq, Eq)]
 pub enum PipeExit {
     /// Both by themselves, with status 0; all that the sending end wrote went into the pipe between them.
     Done,
@@ -36,7 +36,7 @@ pub enum PipeExit {
 pub const LISTING_LIMIT: usize = 33_554_432;
 
 /// One entry of the record of a runner of children.
-#[derive(Debug, Drop)]
+#[derive(Drop)]
 pub enum Line {
     /// A run of a unit began, under this run number.
     Begin(Unit, u64),
@@ -44,16 +44,16 @@ pub enum Line {
     Pipe(Piped),
 }
 
-/// A child that was started, by its words without the program's name, and how it ended.
-#[derive(Debug, Drop)]
+/// A child that was started, by its words, the program's name first, and how it ended.
+#[derive(Drop)]
 pub struct Call {
     pub words: Rows<Bytes>,
     pub exit: RunExit,
     pub written: Bytes,
 }
 
-/// A child whose output another one reads, each by its words without the program's name, and how they ended.
-#[derive(Debug, Drop)]
+/// A child whose output another one reads, each by its words, the program's name first, and how they ended.
+#[derive(Drop)]
 pub struct Piped {
     pub send: Rows<Bytes>,
     pub receive: Rows<Bytes>,
@@ -84,8 +84,7 @@ pub trait Spawn {
         ensures cause { HasExitCause (faults self.old) (faults self.new) result }
         ensures within { length out.new.items ≤ LISTING_LIMIT }
         ensures full { result ≡ RunExit.TooLong → length out.new.items ≡ LISTING_LIMIT }
-        ensures told { Records (told self.old) (told self.new)
-            (drop 1 (map string_bytes argv.now)) result out.new.items }
+        ensures told { Records (told self.old) (told self.new) (map string_bytes argv.now) result out.new.items }
         ensures pools { Serves (drop 1 (map string_bytes argv.now))
             (pools self.old) (pools self.new) result out.new.items };
 
@@ -93,7 +92,7 @@ pub trait Spawn {
     fn pipe(&mut self, send: &[String], receive: &[String]) -> PipeExit
         ensures cause { HasPipeCause (faults self.old) (faults self.new) result }
         ensures told { RecordsPipe (told self.old) (told self.new)
-            (drop 1 (map string_bytes send.now)) (drop 1 (map string_bytes receive.now)) result }
+            (map string_bytes send.now) (map string_bytes receive.now) result }
         ensures pools { ServesPipe (drop 1 (map string_bytes send.now)) (drop 1 (map string_bytes receive.now))
             (pools self.old) (pools self.new) result };
 }

@@ -1,18 +1,10 @@
 ghost use Rattle.std.specs.Prelude.{◌≡◌};
-ghost use Rattle.zr_filter.specs.Rule.{
-  allows_within,
-  covers,
-  is_exact,
-  is_within,
-  lies_below,
-  root_length,
-  subtree_rank,
-};
+ghost use Rattle.zr_filter.specs.Rule.{allows_within, covers, is_exact, is_within, lies_below, root_length, subtree_rank};
 
 use zr_names::Path;
 
 /// One line of a filter (zrepl's documentation, "Filter Syntax").
-#[derive(Debug, PartialEq, Eq, Drop)]
+#[derive(Drop)]
 pub struct Entry {
     /// None, with `subtree`, stands for `<` alone, which is above every path.
     pub path: Option<Path>,
@@ -47,14 +39,7 @@ fn is_within(root: &Path, path: &Path) -> bool
 impl Entry {
     ghost use Rattle.std.specs.Prelude.{◌≡◌, ◌≤◌};
     ghost use Rattle.zr_names.specs.declared.names.TheConstants.{PATH_LIMIT};
-    ghost use Rattle.zr_filter.specs.Rule.{
-      allows_within,
-      covers,
-      is_exact,
-      rank_among,
-      root_length,
-      subtree_rank,
-    };
+    ghost use Rattle.zr_filter.specs.Rule.{allows_within, covers, is_exact, rank_among, root_length, subtree_rank};
 
     fn is_exact(&self, path: &Path) -> bool
         ensures { result ≡ is_exact path.now self.now }

@@ -6,7 +6,7 @@ use crate::entry::{Among, Entry};
 use zr_names::{Path, Rows};
 
 /// Which filesystems a job works on. The order of entries tells only between equal ones.
-#[derive(Debug, Drop)]
+#[derive(Drop)]
 pub struct Filter {
     pub entries: Rows<Entry>,
 }

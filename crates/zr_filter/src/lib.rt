@@ -8,6 +8,3 @@ mod pattern;
 pub use entry::Entry;
 pub use filter::{Filter, matches, reaches};
 pub use pattern::read_pattern;
-
-#[cfg(test)]
-mod tests;

@@ -312,9 +312,6 @@ pub scans_form : Scans IntervalText cap_interval form_at
 scans_form text = subst (Scanned IntervalText cap_interval text) (sym (form_shape text))
     (scans_as IntervalParts IntervalText (both_caps plain (both_caps capped (both_caps plain (both_caps capped cap_keep)))) cap_interval interval_parts_at interval_of form_of to_interval from_interval (λ v t l. refl) scans_interval_parts text)
 
-pub some_interval : IntervalText (record { count = 1; width = 1; keep = Most 1 }) (49 ∷ 120 ∷ 49 ∷ 115 ∷ [])
-some_interval = to_interval (tt, (1, (tt, (1, Most 1)))) (49 ∷ 120 ∷ 49 ∷ 115 ∷ []) ([], 49 ∷ 120 ∷ 49 ∷ 115 ∷ [], refl, tt, some_from_count)
-
 -- ---- no interval has a bar
 
 abbrev pub is_no_bar : ℕ → Bool

@@ -1,5 +1,5 @@
 -- Spans are scanned as the grammar says.
-use Rattle.std.proofs.Common.{◌≡◌, ℕ, zero, suc, ◌-◌, ◌*◌, ◌^◌, ◌<◌, ◌≤◌, true, ◌||◌, List, [], ◌∷◌, length, Result, Ok, Err, refl, sym, subst, ◌∙◌, inl, inr, arith}
+use Rattle.std.proofs.Common.{◌≡◌, ℕ, zero, suc, ◌-◌, ◌*◌, ◌^◌, ◌<◌, ◌≤◌, ◌||◌, List, [], ◌∷◌, length, Result, Ok, Err, refl, sym, subst, ◌∙◌, inl, inr, arith}
 use Rattle.std.proofs.lemmas.Bool.{cases_lt, or_left, or_right}
 use Rattle.zr_grid.specs.Grammar.{is_blank, is_digit, Counted, UnitOf, Span}
 use Rattle.zr_grid.specs.Scan.{◌>>=◌, capped, counted_at, unit_at, span_at}
@@ -23,9 +23,6 @@ First = Both Counted Second
 
 abbrev Whole : Unit {0} × (ℕ × (Unit {0} × (ℕ × Unit {0}))) → List ℕ → Type 0
 Whole = Both Gap First
-
-digit_not_blank_or_unit : (c : ℕ) → is_digit c ≡ true → (is_blank c ≡ true → ⊥) × (is_unit c ≡ true → ⊥)
-digit_not_blank_or_unit c h = (λ b. blank_disjoint is_digit refl refl c b h, unit_disjoint is_digit refl refl refl refl refl c h)
 
 scans_unit_part : Scans UnitPart (both_caps exact plain) (pair unit_at skip_at)
 scans_unit_part = scans_both UnitOf Gap exact plain unit_at skip_at

@@ -18,7 +18,7 @@ pub const MAX_INTERVALS: u64 = 100_000;
 pub const MAX_KEEP: u64 = 4_294_967_295;
 
 /// What an interval keeps of the snapshots in it.
-#[derive(Clone, Copy, Debug, PartialEq, Eq)]
+#[derive(Clone, Copy, PartialEq, Eq)]
 pub enum Keep {
     All,
     /// The oldest ones, at most so many.
@@ -26,7 +26,7 @@ pub enum Keep {
 }
 
 /// Intervals of one width that lie one after the other, as `24x1h`.
-#[derive(Clone, Copy, Debug, PartialEq, Eq)]
+#[derive(Clone, Copy, PartialEq, Eq)]
 pub struct Interval {
     pub count: u32,
     /// In seconds.
@@ -35,7 +35,7 @@ pub struct Interval {
 }
 
 /// The intervals of a grid, in the order of age.
-#[derive(Debug, Drop)]
+#[derive(Drop)]
 pub struct Intervals {
     items: Vec<Interval>,
 }
@@ -85,13 +85,13 @@ impl Clone for Intervals {
 }
 
 /// A retention grid (zrepl's prune policy `grid`).
-#[derive(Clone, Debug, Drop)]
+#[derive(Clone, Drop)]
 pub struct GridSpec {
     pub intervals: Intervals,
 }
 
 /// Why a text is no grid.
-#[derive(Clone, Copy, Debug, PartialEq, Eq)]
+#[derive(Clone, Copy, PartialEq, Eq)]
 pub enum GridFault {
     /// The text leaves the grammar. The number is the length of its longest front that begins a grid.
     BadGrid(usize),

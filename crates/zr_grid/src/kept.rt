@@ -10,7 +10,7 @@ ghost use Rattle.zr_grid.specs.Place.{found};
 use crate::grid::{GridSpec, Interval, Keep};
 
 /// A snapshot, as a grid sees it.
-#[derive(Clone, Copy, Debug, PartialEq, Eq)]
+#[derive(Clone, Copy, PartialEq, Eq)]
 pub struct GridRow {
     /// In seconds since 1970.
     pub creation: u64,

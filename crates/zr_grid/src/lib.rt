@@ -14,6 +14,3 @@ pub use grid::{
 pub use kept::{GridRow, grid_keeps, is_ascending};
 pub use print::{print_grid, printed_grid_is_read_again};
 pub use span::{MAX_SPAN, SpanFault, read_span};
-
-#[cfg(test)]
-mod tests;

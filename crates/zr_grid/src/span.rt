@@ -10,7 +10,7 @@ use crate::scan::{Stop, counted, skip_blanks, unit};
 pub const MAX_SPAN: u64 = 3_153_600_000;
 
 /// Why a text is no span.
-#[derive(Clone, Copy, Debug, PartialEq, Eq)]
+#[derive(Clone, Copy, PartialEq, Eq)]
 pub enum SpanFault {
     /// The text leaves the grammar. The number is the length of its longest front that begins a span.
     BadSpan(usize),

@@ -3,7 +3,7 @@ use Rattle.std.proofs.Math.Bool.{or-false}
 use Rattle.toml.specs.Data.{Members}
 use Rattle.zr_filter.specs.declared.filter.Filter.{Filter}
 use Rattle.zr_filter.specs.Rule.{counting, is_within, reaches}
-use Rattle.zr_permit.specs.declared.job.JobSet.{JobSet}
+use Rattle.zr_jobs.specs.declared.job.JobSet.{JobSet}
 use Rattle.zr_jobfile.specs.declared.JobFault.{JobFault}
 use Rattle.zr_jobfile.specs.declared.JobFault.TheVariants.{TooManyBytes, NotToml, NotBuilt, NoMemory}
 use Rattle.zr_jobfile.specs.JobFile.{Builds, IsJobFile}

@@ -1,5 +1,4 @@
 use Rattle.std.proofs.Common.{◌≡◌, ◌≢◌, ◌==◌, ◌↔◌, ◌<◌, ◌≤◌, ℕ, Bool, IsTrue, List, [], ◌∷◌, Option, Some, None, IfNone, codes, length, refl, sym, ap, arith, ◌∙◌}
-use Rattle.std.specs.Option.{MatchOption}
 use Rattle.toml.specs.Data.{array, Data, item, Items, no_items, Members, member, string, table}
 use Rattle.toml.specs.View.{items_view}
 use Rattle.toml.specs.declared.value.Value.{Value}
@@ -9,11 +8,6 @@ use Rattle.zr_jobfile.specs.Trees.{filter_tree, job_end}
 pub if_none : {T : Type 0} (o : Option T) (P : Type 0) → P → IfNone o P
 if_none None P p = p
 if_none (Some x) P p = tt
-
--- the half of a fact by cases that stands where there is no value
-pub half_none : {T : Type 0} (o : Option T) (P : Type 0) (Q : T → Type 0) → MatchOption o P Q → IfNone o P
-half_none None P Q h = h
-half_none (Some x) P Q h = tt
 
 pub two_values : (values : List Value) (first second : Data) → items_view values ≡ item first (item second no_items) → length values ≡ 2
 two_values [] first second e = cc

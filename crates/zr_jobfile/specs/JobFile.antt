@@ -3,7 +3,7 @@ use Rattle.std.specs.Prelude.{⊤, ◌≡◌, ◌⊎◌, ℕ, ◌<◌, ◌≤◌
 use Rattle.toml.specs.Data.{Members}
 use Rattle.toml.specs.Parse.{parse_document}
 use Rattle.zr_filter.specs.declared.entry.Entry.{Entry}
-use Rattle.zr_permit.specs.declared.job.JobSet.{JobSet}
+use Rattle.zr_jobs.specs.declared.job.JobSet.{JobSet}
 use Rattle.zr_jobfile.specs.SnapFile.{IsPattern, IsSnapFile}
 use Rattle.zr_jobfile.specs.PushFile.{ArePaired, IsPushFile, pushing, PushJob, SinkJob}
 use Rattle.zr_jobfile.specs.declared.TheConstants.{FILE_LIMIT}

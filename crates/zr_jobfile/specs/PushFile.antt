@@ -8,7 +8,7 @@ use Rattle.zr_filter.specs.Rule.{is_within}
 use Rattle.zr_jobs.specs.Identities.{IsIdentity}
 use Rattle.zr_jobs.specs.declared.target.Destination.{Destination}
 use Rattle.zr_jobs.specs.declared.target.Destination.TheVariants.{Push}
-use Rattle.zr_permit.specs.declared.job.JobSet.{JobSet}
+use Rattle.zr_jobs.specs.declared.job.JobSet.{JobSet}
 use Rattle.zr_jobfile.specs.Trees.{filter_tree, job_end, type_end}
 
 -- what is free in a push job

@@ -5,8 +5,8 @@ use Rattle.zr_names.specs.declared.names.TheConstants.{JOB_LIMIT}
 use Rattle.zr_names.specs.Names.{IsName, name_is_bad}
 use Rattle.zr_filter.specs.declared.entry.Entry.{Entry}
 use Rattle.zr_filter.specs.Patterns.{ReadsPattern}
-use Rattle.zr_permit.specs.declared.job.JobSet.{JobSet}
-use Rattle.zr_permit.specs.declared.job.RuleSpec.TheVariants.{LastN}
+use Rattle.zr_jobs.specs.declared.job.JobSet.{JobSet}
+use Rattle.zr_jobs.specs.declared.job.RuleSpec.TheVariants.{LastN}
 use Rattle.zr_jobfile.specs.Trees.{filter_tree, job_end, only, type_end}
 
 -- `{ type = "last_n", count = COUNT }`

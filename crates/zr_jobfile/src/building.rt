@@ -14,9 +14,8 @@ use crate::snap_shape::file_parts;
 use std::alloc::{AllocError, Global};
 use toml::Table;
 use zr_filter::{Entry, Filter, reaches, read_pattern};
-use zr_jobs::{Destination, Identity, IdentityFault, read_identity};
+use zr_jobs::{Destination, Identity, IdentityFault, Job, JobSet, RuleSpec, read_identity};
 use zr_names::{JobName, NameFault, Path, Rows, read_job, read_path};
-use zr_permit::{Job, JobSet, RuleSpec};
 
 fn job_name(alloc: Global, text: &str) -> Result<JobName, JobFault>
     ensures { Names (IsName name_is_bad JOB_LIMIT) text.now result }
@@ -127,17 +126,22 @@ fn one_push(
 fn build_pair(alloc: Global, push: &PushParts<'_>, sink: &SinkParts<'_>) -> Result<JobSet, JobFault>
     ensures { BuildsPair push.now sink.now result }
 {
-    let name = job_name(alloc, push.name)?;
-    job_name(alloc, sink.name)?;
-    job_name(alloc, push.listener)?;
-    let identity = client_identity(alloc, push.identity)?;
-    let path = dataset_path(alloc, push.path)?;
-    let root = dataset_path(alloc, sink.root)?;
     if push.name == sink.name || push.listener != sink.listener {
         return Err(JobFault::NotBuilt);
     }
+    job_name(alloc, sink.name)?;
+    job_name(alloc, push.listener)?;
+    let name = job_name(alloc, push.name)?;
+    let identity = client_identity(alloc, push.identity)?;
+    let root = dataset_path(alloc, sink.root)?;
+    let path = dataset_path(alloc, push.path)?;
     let filter = sole_filter(alloc, path)?;
     if reaches(&filter, &root) {
+        // Let go by hand: at an early exit each is opened and proved again.
+        drop(filter);
+        drop(root);
+        drop(identity);
+        drop(name);
         return Err(JobFault::NotBuilt);
     }
     Ok(one_push(alloc, name, filter, Destination::Push { root, identity })?)

@@ -4,19 +4,20 @@
 ghost use Rattle.zr_jobfile.specs.JobFile.{ReadsJobs};
 
 mod building;
+pub mod laws;
 mod push_shape;
 mod shape;
 mod snap_shape;
 
 use std::alloc::{AllocError, Global};
 use toml::table_from_slice;
-use zr_permit::JobSet;
+use zr_jobs::JobSet;
 
 /// The longest job file, in bytes.
 pub const FILE_LIMIT: usize = 1_048_576;
 
 /// Why a file gives no jobs.
-#[derive(Clone, Copy, Debug, PartialEq, Eq)]
+#[derive(Clone, Copy, PartialEq, Eq)]
 pub enum JobFault {
     /// The file is longer than `FILE_LIMIT`.
     TooManyBytes,
@@ -57,6 +58,3 @@ pub fn read_jobs(alloc: Global, bytes: &[u8]) -> Result<JobSet, JobFault>
         }),
     }
 }
-
-#[cfg(test)]
-mod tests;

@@ -2,22 +2,7 @@
 ghost use Rattle.std.specs.Prelude.{◌≡◌, ◌≢◌, ◌↔◌, ℕ, List, false, IsTrue, codes, IfSome, IfNone};
 ghost use Rattle.toml.specs.Data.{array, Data, member, Members, no_items, no_members, string};
 ghost use Rattle.toml.specs.View.{members_view, table_view, view};
-ghost use Rattle.zr_jobfile.specs.PushFile.{
-  connect_end,
-  connect_tree,
-  local_end,
-  no_rules_end,
-  no_rules_tree,
-  push_end,
-  push_file,
-  push_tree,
-  PushJob,
-  serve_tree,
-  sink_tree,
-  SinkJob,
-  two_items,
-  two_jobs_file,
-};
+ghost use Rattle.zr_jobfile.specs.PushFile.{connect_end, connect_tree, local_end, no_rules_end, no_rules_tree, push_end, push_file, push_tree, PushJob, serve_tree, sink_tree, SinkJob, two_items, two_jobs_file};
 
 use crate::shape::{
     is_done, is_end, is_last_type, members_of, next_member, next_pattern, next_text,

@@ -1,3 +1,4 @@
 pub mod Apart
 pub mod Paths
 pub mod Targets
+pub mod Pairs

@@ -7,7 +7,7 @@ use zr_names::{JobName, NameFault, read_job};
 
 /// The identity of a client, below which a sink puts what that client pushes: a job's name that can
 /// be a component of a path.
-#[derive(Debug, PartialEq, Eq, PartialOrd, Ord, Drop)]
+#[derive(Drop)]
 pub struct Identity {
     name: JobName,
 }
@@ -26,7 +26,7 @@ impl Model for Identity {
 }
 
 /// Why a text is no identity.
-#[derive(Clone, Copy, Debug, PartialEq, Eq)]
+#[derive(Clone, Copy, PartialEq, Eq)]
 pub enum IdentityFault {
     /// The text is `.` or `..`.
     Dots,

@@ -1,3 +1,4 @@
+ghost use Rattle.zr_jobs.specs.declared.target.TheConstants.{LONGEST_PATH};
 ghost use Rattle.std.specs.Prelude.{◌≡◌, ◌≢◌, List, ℕ};
 ghost use Rattle.zr_jobs.specs.Targets.{AreApart, HasIdentity, IsBelow, root_of, target_text};
 ghost use Rattle.zr_jobs.specs.declared.target.Destination.{Destination};
@@ -12,4 +13,9 @@ pub fn targets_differ()
 /// A target is below its root.
 pub fn targets_are_below_their_root()
     ensures { (place : Destination) (source : List ℕ) → IsBelow (root_of place) (target_text place source) }
+{}
+
+/// The most bytes of a path on which a job's units work.
+pub fn longest_path()
+    ensures { LONGEST_PATH ≡ 147 }
 {}

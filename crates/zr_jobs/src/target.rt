@@ -5,8 +5,7 @@ ghost use Rattle.zr_names.specs.declared.names.TheConstants.{PATH_LIMIT};
 
 use crate::identity::Identity;
 use std::alloc::{AllocError, Global};
-use zr_names::Path;
-use zr_names::bytes::Bytes;
+use zr_names::{Bytes, Path};
 
 /// The longest target, in bytes. A bookmark's name of the longest kind, as of a tentative cursor, has
 /// 24 bytes `zrepl_CURSORTENTATIVE_G_`, 16 digits, 3 bytes `_J_` and at most 64 of a job, which is 107.
@@ -14,7 +13,7 @@ use zr_names::bytes::Bytes;
 pub const LONGEST_PATH: usize = 147;
 
 /// Where a job puts what it replicates (zrepl's documentation, jobs `push`, `sink` and `pull`).
-#[derive(Debug, PartialEq, Eq, Drop)]
+#[derive(Drop)]
 pub enum Destination {
     /// Below a sink's root, and there below the client that pushes.
     Push { root: Path, identity: Identity },
@@ -37,7 +36,7 @@ impl Destination {
 }
 
 /// Why a source has no target.
-#[derive(Clone, Copy, Debug, PartialEq, Eq)]
+#[derive(Clone, Copy, PartialEq, Eq)]
 pub enum TargetFault {
     /// The target would have so many bytes; 147 are the most.
     NameTooLong(usize),

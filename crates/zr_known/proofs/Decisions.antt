@@ -9,13 +9,13 @@ use Rattle.zr_names.specs.declared.marks.MarkKind.{MarkKind}
 use Rattle.zr_names.specs.declared.marks.MarkKind.TheVariants.{Cursor, Tentative, OldCursor, Other}
 use Rattle.zr_names.specs.declared.unit.Guid.{Guid}
 use Rattle.zr_names.proofs.MarkKinds.{kind_of_mark, mark_kind-is}
-use Rattle.zr_world.specs.Lookup.{same_name}
-use Rattle.zr_world.specs.declared.version.VersionName.{VersionName}
-use Rattle.zr_world.specs.declared.version.VersionName.TheVariants.{Snap, Mark}
-use Rattle.zr_world.specs.declared.version.VersionRow.{VersionRow}
-use Rattle.zr_plan.specs.Plan.{is_cursor, is_snap, is_snap_of, is_tentative, is_tentative_of, kind_in, names_snap}
+use Rattle.zr_command.specs.Names.{same_name}
+use Rattle.zr_command.specs.declared.version.VersionName.{VersionName}
+use Rattle.zr_command.specs.declared.version.VersionName.TheVariants.{Snap, Mark}
+use Rattle.zr_command.specs.declared.version.VersionRow.{VersionRow}
+use Rattle.zr_command.specs.Kinds.{is_cursor, is_snap, is_snap_of, is_tentative, is_tentative_of, kind_in, names_snap}
 use Rattle.zr_known.specs.declared.known.Known.{Known}
-use Rattle.zr_known.specs.declared.known.Pair.{Pair}
+use Rattle.zr_jobs.specs.declared.pair.Pair.{Pair}
 use Rattle.zr_known.specs.Deciding.{ListsHolds, makes_cursor, MakesCursor}
 use Rattle.zr_known.specs.Known.{is_among, is_row_of, source_row}
 use Rattle.zr_known.specs.Replication.{HoldsKnown}

@@ -6,17 +6,18 @@ use Rattle.std.proofs.lemmas.List.Sorted.{IsPermutation-reverse, list_any-IsPerm
 use Rattle.std.proofs.lemmas.Map.Views.{any-filter_same}
 use Rattle.zr_names.specs.declared.policy.Initial.TheVariants.{MostRecent}
 use Rattle.zr_names.specs.declared.unit.Guid.{Guid}
-use Rattle.zr_world.specs.declared.version.VersionName.{VersionName}
-use Rattle.zr_world.specs.declared.version.VersionName.TheVariants.{Snap, Mark}
-use Rattle.zr_world.specs.declared.version.VersionRow.{VersionRow}
-use Rattle.zr_plan.specs.Plan.{in_full, initial_plan, is_cursor_of, is_snap, names_snap, newest, own_version, plan_after, plan_from, plan_of, step_to, steps_of, steps_plan}
+use Rattle.zr_command.specs.declared.version.VersionName.{VersionName}
+use Rattle.zr_command.specs.declared.version.VersionName.TheVariants.{Snap, Mark}
+use Rattle.zr_command.specs.declared.version.VersionRow.{VersionRow}
+use Rattle.zr_plan.specs.Plan.{in_full, initial_plan, own_version, plan_after, plan_from, plan_of, step_to, steps_of, steps_plan}
+use Rattle.zr_command.specs.Kinds.{is_cursor_of, is_snap, names_snap, newest}
 use Rattle.zr_plan.specs.declared.target.Conflict.TheVariants.{NoSenderSnapshots}
 use Rattle.zr_plan.specs.declared.target.Planned.{Planned}
 use Rattle.zr_plan.specs.declared.target.Planned.TheVariants.{Steps, Conflict}
 use Rattle.zr_plan.specs.declared.target.Step.{Step}
 use Rattle.zr_plan.specs.declared.target.Target.{Target}
 use Rattle.zr_known.specs.declared.known.Known.{Known}
-use Rattle.zr_known.specs.declared.known.Pair.{Pair}
+use Rattle.zr_jobs.specs.declared.pair.Pair.{Pair}
 use Rattle.zr_known.specs.declared.known.Presence.{Presence}
 use Rattle.zr_known.specs.declared.known.Presence.TheVariants.{Unlisted, Absent, There}
 use Rattle.zr_known.specs.declared.known.Receiving.{Receiving}

@@ -6,21 +6,20 @@ use Rattle.zr_names.specs.declared.marks.TagKind.{TagKind}
 use Rattle.zr_names.specs.declared.marks.TagKind.TheVariants.{Step, Last}
 use Rattle.zr_names.specs.declared.marks.MarkKind.{MarkKind}
 use Rattle.zr_names.specs.declared.marks.MarkKind.TheVariants as mark
-use Rattle.zr_world.specs.declared.command.Answer.{Answer}
-use Rattle.zr_world.specs.declared.command.Answer.TheVariants.{Done}
-use Rattle.zr_world.specs.declared.command.Cmd.{Cmd}
-use Rattle.zr_world.specs.declared.command.Cmd.TheVariants as cmd
-use Rattle.zr_world.specs.declared.command.Reply.TheVariants as reply
-use Rattle.zr_world.specs.declared.command.Transfer.{Transfer}
-use Rattle.zr_world.specs.declared.version.SetRow.{SetRow}
-use Rattle.zr_world.specs.declared.version.VersionName.{VersionName}
-use Rattle.zr_world.specs.declared.version.VersionName.TheVariants.{Snap, Mark}
-use Rattle.zr_world.specs.declared.version.VersionRow.{VersionRow}
-use Rattle.zr_world.specs.Lookup.{same_name, same_text}
-use Rattle.zr_world.specs.Reasons.{is_tagged}
-use Rattle.zr_plan.specs.Plan.{is_snap, kind_in}
+use Rattle.zr_command.specs.declared.command.Answer.{Answer}
+use Rattle.zr_command.specs.declared.command.Answer.TheVariants.{Done}
+use Rattle.zr_command.specs.declared.command.Cmd.{Cmd}
+use Rattle.zr_command.specs.declared.command.Cmd.TheVariants as cmd
+use Rattle.zr_command.specs.declared.command.Reply.TheVariants as reply
+use Rattle.zr_command.specs.declared.command.Transfer.{Transfer}
+use Rattle.zr_command.specs.declared.version.SetRow.{SetRow}
+use Rattle.zr_command.specs.declared.version.VersionName.{VersionName}
+use Rattle.zr_command.specs.declared.version.VersionName.TheVariants.{Snap, Mark}
+use Rattle.zr_command.specs.declared.version.VersionRow.{VersionRow}
+use Rattle.zr_command.specs.Names.{is_tagged, same_name, same_text}
+use Rattle.zr_command.specs.Kinds.{is_snap, kind_in}
 use Rattle.zr_known.specs.declared.known.Known.{Known}
-use Rattle.zr_known.specs.declared.known.Pair.{Pair}
+use Rattle.zr_jobs.specs.declared.pair.Pair.{Pair}
 use Rattle.zr_known.specs.declared.known.Presence.{Presence}
 use Rattle.zr_known.specs.declared.known.Presence.TheVariants.{Unlisted, Absent, There}
 use Rattle.zr_known.specs.declared.known.Receiving.{Receiving}

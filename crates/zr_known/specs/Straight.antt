@@ -1,17 +1,17 @@
 use Rattle.std.specs.Prelude.{⊤, ◌≡◌, ◌==◌, ◌&&◌, ◌||◌, ℕ, Bool, true, false, not, List, [], ◌∷◌, Option, Some, is_some, length}
 use Rattle.std.specs.List.{list_all, list_any}
 use Rattle.std.specs.Option.{option_map_or}
-use Rattle.zr_world.specs.declared.command.Cmd.{Cmd}
-use Rattle.zr_world.specs.declared.command.Cmd.TheVariants as cmd
-use Rattle.zr_world.specs.declared.version.VersionName.{VersionName}
-use Rattle.zr_world.specs.declared.version.VersionName.TheVariants.{Snap, Mark}
-use Rattle.zr_world.specs.declared.version.VersionRow.{VersionRow}
-use Rattle.zr_world.specs.Lookup.{same_text}
-use Rattle.zr_plan.specs.Plan.{is_cursor_of, newest}
+use Rattle.zr_command.specs.declared.command.Cmd.{Cmd}
+use Rattle.zr_command.specs.declared.command.Cmd.TheVariants as cmd
+use Rattle.zr_command.specs.declared.version.VersionName.{VersionName}
+use Rattle.zr_command.specs.declared.version.VersionName.TheVariants.{Snap, Mark}
+use Rattle.zr_command.specs.declared.version.VersionRow.{VersionRow}
+use Rattle.zr_command.specs.Names.{same_text}
+use Rattle.zr_command.specs.Kinds.{is_cursor_of, newest}
 use Rattle.zr_plan.specs.declared.target.Planned.{Planned}
 use Rattle.zr_plan.specs.declared.target.Planned.TheVariants.{UpToDate, Steps}
 use Rattle.zr_known.specs.declared.known.Known.{Known}
-use Rattle.zr_known.specs.declared.known.Pair.{Pair}
+use Rattle.zr_jobs.specs.declared.pair.Pair.{Pair}
 use Rattle.zr_known.specs.declared.known.Presence.{Presence}
 use Rattle.zr_known.specs.declared.known.Presence.TheVariants.{Unlisted, Absent, There}
 use Rattle.zr_known.specs.declared.known.Receiving.{Receiving}

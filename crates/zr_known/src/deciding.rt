@@ -2,15 +2,15 @@ ghost use Rattle.std.specs.Prelude.{◌≡◌, ◌==◌, ◌&&◌, ◌||◌, Som
 ghost use Rattle.std.specs.List.{list_any};
 ghost use Rattle.std.specs.Option.{option_copied};
 ghost use Rattle.zr_names.specs.Marks.{cursor_text};
-ghost use Rattle.zr_world.specs.Lookup.{same_text};
-ghost use Rattle.zr_world.specs.declared.version.VersionName.TheVariants.{Snap};
+ghost use Rattle.zr_command.specs.Names.{same_text};
+ghost use Rattle.zr_command.specs.declared.version.VersionName.TheVariants.{Snap};
 ghost use Rattle.zr_known.specs.Known.{is_row_of};
 
-use crate::known::{Known, Pair, Receiving};
+use crate::known::{Known, Receiving};
 use crate::versions::{has_cursor, has_mark, has_snap, is_among, is_snap_named};
+use zr_command::{SetRow, VersionName, VersionRow, is_cursor, newest};
+use zr_jobs::Pair;
 use zr_names::{Guid, JobName, MarkName, Path, SnapName, mark_of};
-use zr_plan::{is_cursor, newest};
-use zr_world::{SetRow, VersionName, VersionRow};
 
 /// Whether a row is the snapshot of this name, and its holds are known.
 fn has_known_holds(row: &VersionRow, name: &SnapName, asked: bool) -> bool
@@ -54,23 +54,11 @@ impl Known {
     ghost use Rattle.std.specs.Prelude.{◌≡◌, [], Decides};
     ghost use Rattle.std.specs.List.{list_any};
     ghost use Rattle.std.specs.Option.{option_copied, option_map_or};
-    ghost use Rattle.zr_plan.specs.Plan.{is_cursor_of};
-    ghost use Rattle.zr_world.specs.declared.version.VersionName.TheVariants.{Mark};
+    ghost use Rattle.zr_command.specs.Kinds.{is_cursor_of};
+    ghost use Rattle.zr_command.specs.declared.version.VersionName.TheVariants.{Mark};
     ghost use Rattle.zr_known.specs.Deciding.{IsSettledBeside, ListsHolds};
     ghost use Rattle.zr_known.specs.Known.{is_among, is_row_of};
-    ghost use Rattle.zr_known.specs.Replication.{
-      HasNone,
-      MayClear,
-      MayDestroyMark,
-      MayHoldLast,
-      MayHoldStep,
-      MayReleaseLast,
-      MayReleaseStep,
-      newest_known,
-      NewestIsSafe,
-      Shows,
-      ShowsSet,
-    };
+    ghost use Rattle.zr_known.specs.Replication.{HasNone, MayClear, MayDestroyMark, MayHoldLast, MayHoldStep, MayReleaseLast, MayReleaseStep, newest_known, NewestIsSafe, Shows, ShowsSet};
 
     /// The target's newest snapshot, where its versions are known.
     pub fn newest(&self) -> Option<&VersionRow>

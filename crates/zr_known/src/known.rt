@@ -1,20 +1,11 @@
 ghost use Rattle.std.specs.Prelude.{◌≡◌};
 
 use std::alloc::Global;
+use zr_command::{SetRow, VersionRow};
 use zr_names::{JobName, Path, Rows, SnapName};
-use zr_world::{SetRow, VersionRow};
-
-/// What is replicated: the job, the source, the target, and the root below which the job's targets lie.
-#[derive(Debug, Drop)]
-pub struct Pair {
-    pub job: JobName,
-    pub source: Path,
-    pub target: Path,
-    pub root: Path,
-}
 
 /// What is known of whether a dataset is there.
-#[derive(Clone, Copy, Debug, PartialEq, Eq)]
+#[derive(Clone, Copy, PartialEq, Eq)]
 pub enum Presence {
     /// The datasets were not listed.
     Unlisted,
@@ -24,7 +15,7 @@ pub enum Presence {
 }
 
 /// What is known of a partial receive.
-#[derive(Clone, Copy, Debug, PartialEq, Eq)]
+#[derive(Clone, Copy, PartialEq, Eq)]
 pub enum Receiving {
     /// It was not listed, or there is one.
     Unknown,
@@ -32,7 +23,7 @@ pub enum Receiving {
 }
 
 /// What a replication unit has been told.
-#[derive(Debug, Drop)]
+#[derive(Drop)]
 pub struct Known {
     /// The source's last listing.
     pub source: Option<Rows<VersionRow>>,

@@ -1,7 +1,7 @@
 //! What a replication unit knows after each of its turns, and what it may give by that.
 #![tactic(auto)]
 
-pub use known::{Known, Pair, Presence, Receiving};
+pub use known::{Known, Presence, Receiving};
 pub use straight::NOT_STRAIGHT;
 
 mod deciding;
@@ -11,7 +11,5 @@ mod marking;
 mod sending;
 pub mod straight;
 mod telling;
-#[cfg(test)]
-mod tests;
 mod updates;
 mod versions;

@@ -1,16 +1,16 @@
 ghost use Rattle.std.specs.Prelude.{◌≡◌};
 
-use crate::known::{Known, Pair};
+use crate::known::Known;
 use crate::versions::{row_of, snap_row};
+use zr_command::{VersionName, VersionRow, is_snap_of, is_tentative_of};
+use zr_jobs::Pair;
 use zr_names::Guid;
-use zr_plan::{is_snap_of, is_tentative_of};
-use zr_world::{VersionName, VersionRow};
 
 impl Known {
     ghost use Rattle.std.specs.Prelude.{◌≡◌, ◌&&◌, [], MatchOption, find};
     ghost use Rattle.std.specs.Option.{option_copied, option_map_or, option_or};
-    ghost use Rattle.zr_plan.specs.Plan.{is_snap_of};
-    ghost use Rattle.zr_world.specs.declared.version.VersionName.{VersionName};
+    ghost use Rattle.zr_command.specs.Kinds.{is_snap_of};
+    ghost use Rattle.zr_command.specs.declared.version.VersionName.{VersionName};
     ghost use Rattle.zr_known.specs.Deciding.{makes_cursor, MakesCursor};
     ghost use Rattle.zr_known.specs.Known.{source_row};
 

@@ -1,12 +1,13 @@
 ghost use Rattle.std.specs.Prelude.{◌≡◌, ◌++◌, OnOk, filter};
-ghost use Rattle.zr_plan.specs.Plan.{is_snap};
+ghost use Rattle.zr_command.specs.Kinds.{is_snap};
 ghost use Rattle.zr_known.specs.Replication.{is_there};
 
-use crate::known::{Known, Pair, Presence, Receiving};
+use crate::known::{Known, Presence, Receiving};
 use std::alloc::Global;
+use zr_command::{Base, Transfer, VersionRow, is_snap};
+use zr_jobs::Pair;
 use zr_names::{Guid, Initial, NoMemory, Rows, Same, cursor_name, same_items};
-use zr_plan::{Planned, Step, Target, is_snap, plan};
-use zr_world::{Base, Transfer, VersionRow};
+use zr_plan::{Planned, Step, Target, plan};
 
 pub(crate) fn is_there(presence: Presence) -> bool
     ensures { result ≡ is_there presence }
@@ -36,13 +37,7 @@ fn push_all(copies: &mut Rows<VersionRow>, rows: &[VersionRow]) -> Result<(), No
 
 impl Known {
     ghost use Rattle.std.specs.Prelude.{◌≡◌, IfOk};
-    ghost use Rattle.zr_known.specs.Replication.{
-      next_transfer,
-      plan_known,
-      planned_onto,
-      rows_of_source,
-      transfer_of_step,
-    };
+    ghost use Rattle.zr_known.specs.Replication.{next_transfer, plan_known, planned_onto, rows_of_source, transfer_of_step};
 
     /// The source's rows for a plan.
     fn rows_of_source(

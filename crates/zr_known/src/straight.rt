@@ -1,16 +1,16 @@
 ghost use Rattle.std.specs.Prelude.{◌≡◌};
 ghost use Rattle.std.specs.List.{list_all};
-ghost use Rattle.zr_plan.specs.Plan.{is_cursor_of};
-ghost use Rattle.zr_world.specs.Lookup.{same_text};
+ghost use Rattle.zr_command.specs.Kinds.{is_cursor_of};
+ghost use Rattle.zr_command.specs.Names.{same_text};
 ghost use Rattle.zr_known.specs.Straight.{has_known_holds, has_listed_holds, is_absent, is_none_receiving};
 
 use crate::deciding::shows_path;
-use crate::known::{Known, Pair, Presence, Receiving};
+use crate::known::{Known, Presence, Receiving};
 use crate::sending::is_there;
 use crate::versions::is_among;
+use zr_command::{VersionName, VersionRow, is_cursor_of, newest};
+use zr_jobs::Pair;
 use zr_names::{Guid, JobName, SnapName};
-use zr_plan::{is_cursor_of, newest};
-use zr_world::{VersionName, VersionRow};
 
 /// The number of the conflict of a pair that is not straight.
 pub const NOT_STRAIGHT: u8 = 20;
@@ -57,16 +57,7 @@ fn is_none_receiving(receiving: Receiving) -> bool
 
 impl Known {
     ghost use Rattle.std.specs.Prelude.{◌≡◌};
-    ghost use Rattle.zr_known.specs.Straight.{
-      has_listed,
-      has_listed_holds,
-      has_listed_target,
-      has_snapshot,
-      is_alone,
-      is_at_rest,
-      is_straight,
-      is_untouched,
-    };
+    ghost use Rattle.zr_known.specs.Straight.{has_listed, has_listed_holds, has_listed_target, has_snapshot, is_alone, is_at_rest, is_straight, is_untouched};
 
     fn has_listed_source(&self) -> bool
         ensures { result ≡ has_listed_holds self.now.source_holds self.now.source }

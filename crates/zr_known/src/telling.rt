@@ -1,4 +1,4 @@
-use crate::known::{Known, Pair, Receiving};
+use crate::known::{Known, Receiving};
 use crate::updates::{
     has_tag, mark_row, own_marks, presence_after, presence_by, push_arrival, receiving_by,
     retain_others, rows_by_sets, set_among, set_at,
@@ -6,23 +6,15 @@ use crate::updates::{
 use crate::versions::is_own_mark;
 use std::alloc::Global;
 use std::mem;
+use zr_command::{Answer, Cmd, Reply, SetRow, Transfer, VersionName, VersionRow};
+use zr_jobs::Pair;
 use zr_names::{JobName, MarkName, NoMemory, Path, Rows, SnapName, Tag, TagKind, same_items};
-use zr_world::{Answer, Cmd, Reply, SetRow, Transfer, VersionName, VersionRow};
 
 impl Known {
     ghost use Rattle.std.specs.Prelude.{◌≡◌, OnErr, OnOk, if◌then◌else◌};
-    ghost use Rattle.zr_world.specs.Lookup.{same_text};
-    ghost use Rattle.zr_world.specs.declared.command.Answer.TheVariants.{Done};
-    ghost use Rattle.zr_known.specs.Known.{
-      told_bookmark,
-      told_by,
-      told_hold,
-      told_holds,
-      told_mark_gone,
-      told_sets,
-      told_transfer,
-      told_versions,
-    };
+    ghost use Rattle.zr_command.specs.Names.{same_text};
+    ghost use Rattle.zr_command.specs.declared.command.Answer.TheVariants.{Done};
+    ghost use Rattle.zr_known.specs.Known.{told_bookmark, told_by, told_hold, told_holds, told_mark_gone, told_sets, told_transfer, told_versions};
 
     /// The datasets were listed.
     fn told_sets(&mut self, alloc: Global, pair: &Pair, rows: &[SetRow]) -> Result<(), NoMemory>

@@ -1,26 +1,15 @@
 ghost use Rattle.std.specs.Prelude.{◌≡◌, ◌++◌, ◌∷◌, [], None, Some, IfOk, OnErr, OnOk, filter, find, not};
 ghost use Rattle.std.specs.Option.{option_copied, option_map_or};
 ghost use Rattle.zr_names.specs.Marks.{tag_text};
-ghost use Rattle.zr_world.specs.Lookup.{same_text};
-ghost use Rattle.zr_world.specs.Reasons.{is_tagged};
-ghost use Rattle.zr_world.specs.declared.version.VersionName.TheVariants.{Mark};
-ghost use Rattle.zr_known.specs.Known.{
-  arrival,
-  is_own,
-  is_row_of,
-  presence_after,
-  presence_by,
-  receiving_by,
-  rows_by_sets,
-  set_among,
-  without_name,
-};
+ghost use Rattle.zr_command.specs.Names.{is_tagged, same_text};
+ghost use Rattle.zr_command.specs.declared.version.VersionName.TheVariants.{Mark};
+ghost use Rattle.zr_known.specs.Known.{arrival, is_own, is_row_of, presence_after, presence_by, receiving_by, rows_by_sets, set_among, without_name};
 
 use crate::known::{Presence, Receiving};
 use crate::versions::{is_mark_of, is_own};
 use std::alloc::Global;
+use zr_command::{SetRow, Transfer, VersionName, VersionRow};
 use zr_names::{JobName, MarkName, NoMemory, Path, Rows, Same, SnapName, Tag, TagKind, is_tag};
-use zr_world::{SetRow, Transfer, VersionName, VersionRow};
 
 pub(crate) fn set_at<'a>(rows: &'a [SetRow], path: &Path) -> Option<&'a SetRow>
     ensures { option_copied result ≡ find (λ row. same_text row.path path.now) rows.now }

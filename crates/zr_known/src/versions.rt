@@ -1,14 +1,13 @@
 ghost use Rattle.std.specs.Prelude.{◌≡◌, ◌&&◌, find};
 ghost use Rattle.std.specs.List.{list_any};
 ghost use Rattle.std.specs.Option.{option_copied};
-ghost use Rattle.zr_world.specs.Lookup.{same_name};
-ghost use Rattle.zr_plan.specs.Plan.{is_cursor_of, is_snap, kind_in};
+ghost use Rattle.zr_command.specs.Names.{same_name};
+ghost use Rattle.zr_command.specs.Kinds.{is_cursor_of, is_snap, kind_in};
 ghost use Rattle.zr_known.specs.Known.{is_among, is_own, is_own_kind, is_row_of};
-ghost use Rattle.zr_world.specs.declared.version.VersionName.TheVariants.{Mark, Snap};
+ghost use Rattle.zr_command.specs.declared.version.VersionName.TheVariants.{Mark, Snap};
 
+use zr_command::{VersionName, VersionRow, is_cursor_of, is_snap, kind_in};
 use zr_names::{Guid, JobName, MarkKind, MarkName, SnapName, mark_of};
-use zr_plan::{is_cursor_of, is_snap, kind_in};
-use zr_world::{VersionName, VersionRow};
 
 fn is_own_kind(kind: MarkKind) -> bool
     ensures { result ≡ is_own_kind kind }

@@ -5,10 +5,11 @@ use Rattle.std.specs.Ordering.{nat_cmp, is_lt, ordering_reverse}
 use Rattle.std.specs.declared.cmp.Ordering.{Ordering}
 use Rattle.std.specs.declared.cmp.Ordering.TheVariants.{Less, Equal, Greater}
 use Rattle.std.proofs.lemmas.Bool.Decides.{nat_tests}
-use Rattle.zr_world.specs.Pools.{is_below, name_is_below, stands_before, IsVersionList}
-use Rattle.zr_world.specs.declared.version.VersionName.{VersionName}
-use Rattle.zr_world.specs.declared.version.VersionName.TheVariants.{Snap, Mark}
-use Rattle.zr_world.specs.declared.version.VersionRow.{VersionRow}
+use Rattle.zr_command.specs.Names.{is_below, name_is_below}
+use Rattle.zr_command.specs.Listings.{stands_before, IsVersionList}
+use Rattle.zr_command.specs.declared.version.VersionName.{VersionName}
+use Rattle.zr_command.specs.declared.version.VersionName.TheVariants.{Snap, Mark}
+use Rattle.zr_command.specs.declared.version.VersionRow.{VersionRow}
 
 -- an element of a list is the first or one of the others
 first-or-rest : {X : Type 0} (x z : X) (xs : List X) → Contains (x ∷ xs) z → (x ≡ z) ⊎ Contains xs z

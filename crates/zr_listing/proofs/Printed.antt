@@ -10,11 +10,11 @@ use Rattle.std.proofs.lemmas.List.{take_all, take_more, flat_map_more}
 use Rattle.std.proofs.lemmas.List.Splits.{slice_split_none, slice_split_at}
 use Rattle.zr_names.specs.Names.{IsName, is_name_byte, path_is_bad, name_is_bad, tag_is_bad, token_is_bad, slash_is_bad, begins_component, is_dots}
 use Rattle.zr_names.specs.declared.names.TheConstants.{PATH_LIMIT, NAME_LIMIT, TOKEN_LIMIT}
-use Rattle.zr_world.specs.Pools.{is_mark}
-use Rattle.zr_world.specs.declared.version.SetRow.{SetRow}
-use Rattle.zr_world.specs.declared.version.VersionName.{VersionName}
-use Rattle.zr_world.specs.declared.version.VersionName.TheVariants.{Snap, Mark}
-use Rattle.zr_world.specs.declared.version.VersionRow.{VersionRow}
+use Rattle.zr_command.specs.Names.{is_mark}
+use Rattle.zr_command.specs.declared.version.SetRow.{SetRow}
+use Rattle.zr_command.specs.declared.version.VersionName.{VersionName}
+use Rattle.zr_command.specs.declared.version.VersionName.TheVariants.{Snap, Mark}
+use Rattle.zr_command.specs.declared.version.VersionRow.{VersionRow}
 use Rattle.zr_listing.specs.Columns.{columns, full_name, IsSetLine, IsVersionLine, IsHoldLine, IsToken, IsSuffix, IsRefs}
 use Rattle.zr_listing.specs.Lines.{lines_of, Lines}
 use Rattle.zr_listing.specs.Order.{bare_name}
@@ -52,9 +52,6 @@ unlike b byte low small = grind (arith, nat_tests)
 plain-lacks : (byte : ℕ) (text : List ℕ) → byte < 32 → ArePlain text → Lacks byte text
 plain-lacks byte [] small p = tt
 plain-lacks byte (x ∷ xs) small p = (unlike x byte p.0 small, plain-lacks byte xs small p.1)
-
-itself : (byte : ℕ) → (byte == byte) ≡ true
-itself byte = grind (arith, nat_tests)
 
 -- columns without tabs are the columns of their line
 columns-joined : (column : List ℕ) (others : List (List ℕ)) → Lacks 9 column → AllByRecursion (λ c. Lacks 9 c) others → columns (with_tabs (column ∷ others)) ≡ column ∷ others

@@ -5,10 +5,10 @@ use Rattle.std.proofs.lemmas.List.{append_cancel_left}
 use Rattle.std.proofs.lemmas.Fmt.{decimal_injective}
 use Rattle.zr_names.specs.Names.{IsName, token_is_bad}
 use Rattle.zr_names.specs.declared.names.TheConstants.{TOKEN_LIMIT}
-use Rattle.zr_world.specs.declared.version.SetRow.{SetRow}
-use Rattle.zr_world.specs.declared.version.VersionName.{VersionName}
-use Rattle.zr_world.specs.declared.version.VersionName.TheVariants.{Snap, Mark}
-use Rattle.zr_world.specs.declared.version.VersionRow.{VersionRow}
+use Rattle.zr_command.specs.declared.version.SetRow.{SetRow}
+use Rattle.zr_command.specs.declared.version.VersionName.{VersionName}
+use Rattle.zr_command.specs.declared.version.VersionName.TheVariants.{Snap, Mark}
+use Rattle.zr_command.specs.declared.version.VersionRow.{VersionRow}
 use Rattle.zr_listing.specs.Columns.{full_name, columns, IsToken, IsSetLine, IsSuffix, IsVersionName, IsNumber, IsRefs, IsVersionLine, IsHoldLine}
 use Rattle.zr_listing.specs.Reading.{Finds}
 use Rattle.zr_listing.specs.declared.faults.LineFault.{LineFault}

@@ -3,9 +3,9 @@ use Rattle.zr_listing.specs.Columns.{IsSetLine, IsVersionLine, IsHoldLine}
 use Rattle.zr_listing.specs.Lines.{Lines}
 use Rattle.zr_listing.specs.declared.faults.ListFault.{ListFault}
 use Rattle.zr_listing.specs.declared.faults.ListFault.TheVariants as fault
-use Rattle.zr_world.specs.Pools.{IsSetList, IsVersionList}
-use Rattle.zr_world.specs.declared.version.SetRow.{SetRow}
-use Rattle.zr_world.specs.declared.version.VersionRow.{VersionRow}
+use Rattle.zr_command.specs.Listings.{IsSetList, IsVersionList}
+use Rattle.zr_command.specs.declared.version.SetRow.{SetRow}
+use Rattle.zr_command.specs.declared.version.VersionRow.{VersionRow}
 
 -- a listing is refused for its bytes, and not for want of memory
 abbrev pub IsGarbled : {X : Type 0} → Result X ListFault → Type 0

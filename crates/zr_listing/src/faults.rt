@@ -2,7 +2,7 @@ use std::alloc::{AllocError, AllocFailed};
 use zr_names::NameFault;
 
 /// Why a listing gives no rows.
-#[derive(Clone, Copy, Debug, PartialEq, Eq)]
+#[derive(Clone, Copy, PartialEq, Eq)]
 pub enum ListFault {
     /// The line of this number, counted from 1, is the first that is not of its form.
     Garbled(u64),
@@ -10,7 +10,7 @@ pub enum ListFault {
 }
 
 /// Why one line gives no row.
-#[derive(Clone, Copy, Debug, PartialEq, Eq)]
+#[derive(Clone, Copy, PartialEq, Eq)]
 pub(crate) enum LineFault {
     Bad,
     NoMemory,

@@ -3,7 +3,7 @@ ghost use Rattle.zr_listing.specs.Columns.{full_name, IsHoldLine, IsTag};
 ghost use Rattle.zr_listing.specs.Lines.{IsBadAt};
 ghost use Rattle.zr_listing.specs.Listing.{IsGarbled, IsHoldListing};
 ghost use Rattle.zr_listing.specs.Reading.{Finds};
-ghost use Rattle.zr_world.specs.declared.version.VersionName.TheVariants.{Snap};
+ghost use Rattle.zr_command.specs.declared.version.VersionName.TheVariants.{Snap};
 
 use crate::columns::{second_column, three_columns};
 use crate::faults::{LineFault, ListFault};

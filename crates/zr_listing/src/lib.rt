@@ -14,6 +14,4 @@ pub mod holds;
 mod lines;
 pub mod print;
 pub mod sets;
-#[cfg(test)]
-mod tests;
 pub mod versions;

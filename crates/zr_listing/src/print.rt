@@ -5,22 +5,12 @@ ghost use Rattle.zr_names.specs.declared.names.TheConstants.{NAME_LIMIT, TOKEN_L
 ghost use Rattle.zr_listing.specs.Columns.{full_name};
 ghost use Rattle.zr_listing.specs.Order.{bare_name};
 ghost use Rattle.zr_listing.specs.Listing.{IsHoldListing, IsSetListing, IsVersionListing};
-ghost use Rattle.zr_listing.specs.Printing.{
-  ended,
-  hold_line,
-  IsSetRow,
-  IsVersionRow,
-  MarksAreFree,
-  refs_text,
-  set_line,
-  token_text,
-  version_line,
-};
-ghost use Rattle.zr_world.specs.Pools.{IsSetList, IsVersionList};
+ghost use Rattle.zr_listing.specs.Printing.{ended, hold_line, IsSetRow, IsVersionRow, MarksAreFree, refs_text, set_line, token_text, version_line};
+ghost use Rattle.zr_command.specs.Listings.{IsSetList, IsVersionList};
 
 use std::alloc::{AllocError, Global};
+use zr_command::{SetRow, VersionName, VersionRow};
 use zr_names::{NoMemory, Path, SnapName, Tag, TokenText};
-use zr_world::{SetRow, VersionName, VersionRow};
 
 /// Prints a tab and a number.
 fn push_number(alloc: Global, out: &mut Vec<u8>, n: u64) -> Result<(), AllocError>

@@ -6,14 +6,14 @@ ghost use Rattle.zr_listing.specs.Columns.{IsSetLine, IsPath, IsToken};
 ghost use Rattle.zr_listing.specs.Lines.{IsBadAt};
 ghost use Rattle.zr_listing.specs.Listing.{IsGarbled, IsSetListing};
 ghost use Rattle.zr_listing.specs.Reading.{Finds};
-ghost use Rattle.zr_world.specs.Pools.{IsSetList};
+ghost use Rattle.zr_command.specs.Listings.{IsSetList};
 
 use crate::columns::{first_column, three_columns};
 use crate::faults::{LineFault, ListFault};
 use crate::lines::{Kind, read_lines};
 use std::alloc::Global;
+use zr_command::SetRow;
 use zr_names::{Path, Rows, TokenText, read_path, read_token_text};
-use zr_world::SetRow;
 
 /// Reads the column of a path.
 fn path_of(alloc: Global, column: &[u8]) -> Result<Path, LineFault>

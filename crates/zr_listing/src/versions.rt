@@ -6,15 +6,15 @@ ghost use Rattle.zr_listing.specs.Lines.{IsBadAt};
 ghost use Rattle.zr_listing.specs.Listing.{IsGarbled, IsVersionListing};
 ghost use Rattle.zr_listing.specs.Order.{row_cmp};
 ghost use Rattle.zr_listing.specs.Reading.{Finds};
-ghost use Rattle.zr_world.specs.Pools.{IsVersionList};
+ghost use Rattle.zr_command.specs.Listings.{IsVersionList};
 
 use crate::columns::{first_column, read_number, version_columns};
 use crate::faults::{LineFault, ListFault};
 use crate::lines::{Kind, read_lines};
 use std::alloc::{AllocError, Global};
 use std::cmp::Ordering;
+use zr_command::{VersionName, VersionRow};
 use zr_names::{Guid, MarkName, Path, Rows, SnapName, read_mark, read_snap};
-use zr_world::{VersionName, VersionRow};
 
 /// Reads the name of a snapshot, without the `@`.
 fn snap_of(alloc: Global, text: &[u8]) -> Result<SnapName, LineFault>

@@ -1,5 +1,4 @@
 pub mod Alphabet
-pub mod Count
 pub mod Hex
 pub mod Marks
 pub mod Names

@@ -1,13 +1,6 @@
+ghost use Rattle.zr_names.specs.declared.names.TheConstants.{JOB_LIMIT, NAME_LIMIT, PATH_LIMIT, TOKEN_LIMIT};
 ghost use Rattle.std.specs.Prelude.{◌≡◌, ◌≢◌, ◌<◌, ◌^◌, List, ℕ};
-ghost use Rattle.zr_names.specs.Marks.{
-  cursor_text,
-  HasGuid,
-  IsMark,
-  mark_kind,
-  old_cursor_text,
-  tag_text,
-  tentative_text,
-};
+ghost use Rattle.zr_names.specs.Marks.{cursor_text, HasGuid, IsMark, mark_kind, old_cursor_text, tag_text, tentative_text};
 ghost use Rattle.zr_names.specs.declared.marks.MarkKind.{MarkKind};
 ghost use Rattle.zr_names.specs.declared.marks.MarkKind.TheVariants.{Other};
 ghost use Rattle.zr_names.specs.declared.marks.TagKind.{TagKind};
@@ -37,4 +30,12 @@ pub fn a_name_is_one_mark()
         (kind : MarkKind) → HasGuid kind → IsMark (cursor_text g j) k kind → kind ≡ Other }
     ensures other_tentative { (j k : List ℕ) (g : ℕ) → g < 2 ^ 64 → j ≢ k →
         (kind : MarkKind) → HasGuid kind → IsMark (tentative_text g j) k kind → kind ≡ Other }
+{}
+
+/// The most bytes of a path, of another name of ZFS, of a job's name or a prefix, and of a resume token.
+pub fn limits_of_names()
+    ensures path { PATH_LIMIT ≡ 255 }
+    ensures name { NAME_LIMIT ≡ 255 }
+    ensures job { JOB_LIMIT ≡ 64 }
+    ensures token { TOKEN_LIMIT ≡ 4096 }
 {}

@@ -1,21 +1,11 @@
 ghost use Rattle.std.specs.Prelude.{◌≡◌, ◌≢◌, ◌↔◌, ◌++◌, ℕ, List, codes, IfOk, IsTrue, MatchOption};
-ghost use Rattle.zr_names.specs.Marks.{
-  cursor_text,
-  guid_and_job,
-  HasGuid,
-  IsMark,
-  mark_kind,
-  tag_front,
-  tag_text,
-  tentative_text,
-};
+ghost use Rattle.zr_names.specs.Marks.{cursor_text, guid_and_job, HasGuid, IsMark, mark_kind, tag_front, tag_text, tentative_text};
 
-use crate::bytes::Bytes;
 use crate::hex::read_hex;
 use crate::names::{JobName, MarkName, Tag};
-use crate::outcome::NoMemory;
 use crate::unit::Guid;
 use std::alloc::Global;
+use zr_base::{Bytes, NoMemory};
 
 const CURSOR: &[u8] = b"zrepl_CURSOR_G_";
 
@@ -26,7 +16,7 @@ const OLD_CURSOR: &[u8] = b"zrepl_replication_cursor";
 const OF_JOB: &[u8] = b"_J_";
 
 /// The holds that a job puts on snapshots.
-#[derive(Clone, Copy, Debug, PartialEq, Eq)]
+#[derive(Clone, Copy, PartialEq, Eq)]
 pub enum TagKind {
     /// On a source snapshot while a step sends it.
     Step,
@@ -35,7 +25,7 @@ pub enum TagKind {
 }
 
 /// What a bookmark is to a job.
-#[derive(Clone, Copy, Debug, PartialEq, Eq)]
+#[derive(Clone, Copy, PartialEq, Eq)]
 pub enum MarkKind {
     /// The job's replication cursor at the snapshot of this guid.
     Cursor(Guid),

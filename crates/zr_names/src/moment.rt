@@ -6,7 +6,7 @@ use std::marker::Model;
 pub const END_OF_TIME: u64 = 32_503_680_000_000;
 
 /// A count of milliseconds since 1970-01-01T00:00:00Z, before the year 3000.
-#[derive(Clone, Copy, Debug, PartialEq, Eq, PartialOrd, Ord)]
+#[derive(Clone, Copy, PartialEq, Eq, PartialOrd, Ord)]
 pub struct Moment {
     ms: u64,
 }

@@ -1,5 +1,5 @@
-use crate::bytes::Bytes;
 use std::marker::Model;
+use zr_base::Bytes;
 
 /// The longest path, in bytes.
 pub const PATH_LIMIT: usize = 255;
@@ -14,7 +14,7 @@ pub const JOB_LIMIT: usize = 64;
 pub const TOKEN_LIMIT: usize = 4096;
 
 /// The path of a dataset, as `tank/home`: at most 255 bytes (zfs(8), "names").
-#[derive(Clone, Debug, PartialEq, Eq, PartialOrd, Ord, Drop)]
+#[derive(Clone, PartialEq, Eq, PartialOrd, Ord, Drop)]
 pub struct Path {
     text: Bytes,
 }
@@ -54,7 +54,7 @@ impl Path {
 }
 
 /// The name of a snapshot, the part behind the `@`: at most 255 bytes.
-#[derive(Clone, Debug, PartialEq, Eq, PartialOrd, Ord, Drop)]
+#[derive(Clone, PartialEq, Eq, PartialOrd, Ord, Drop)]
 pub struct SnapName {
     text: Bytes,
 }
@@ -94,7 +94,7 @@ impl SnapName {
 }
 
 /// The name of a bookmark, the part behind the `#`: at most 255 bytes.
-#[derive(Clone, Debug, PartialEq, Eq, PartialOrd, Ord, Drop)]
+#[derive(Clone, PartialEq, Eq, PartialOrd, Ord, Drop)]
 pub struct MarkName {
     text: Bytes,
 }
@@ -134,7 +134,7 @@ impl MarkName {
 }
 
 /// The name of a job or of a served listener: at most 64 bytes.
-#[derive(Clone, Debug, PartialEq, Eq, PartialOrd, Ord, Drop)]
+#[derive(Clone, PartialEq, Eq, Drop)]
 pub struct JobName {
     text: Bytes,
 }
@@ -174,7 +174,7 @@ impl JobName {
 }
 
 /// What the names of a job's snapshots begin with: at most 64 bytes.
-#[derive(Clone, Debug, PartialEq, Eq, PartialOrd, Ord, Drop)]
+#[derive(Clone, PartialEq, Eq, Drop)]
 pub struct Prefix {
     text: Bytes,
 }
@@ -214,7 +214,7 @@ impl Prefix {
 }
 
 /// The tag of a hold (zfs-hold(8)): at most 255 bytes, of any kind but tab and newline.
-#[derive(Clone, Debug, PartialEq, Eq, PartialOrd, Ord, Drop)]
+#[derive(Clone, PartialEq, Eq, Drop)]
 pub struct Tag {
     text: Bytes,
 }
@@ -254,7 +254,7 @@ impl Tag {
 }
 
 /// A resume token as `receive_resume_token` shows it (zfs-send(8)): at most 4,096 bytes.
-#[derive(Clone, Debug, PartialEq, Eq, PartialOrd, Ord, Drop)]
+#[derive(Clone, PartialEq, Eq, Drop)]
 pub struct TokenText {
     text: Bytes,
 }

@@ -1,5 +1,5 @@
 /// Which snapshots a replication sends first where the target has none.
-#[derive(Clone, Copy, Debug, PartialEq, Eq)]
+#[derive(Clone, Copy, PartialEq, Eq)]
 pub enum Initial {
     /// The newest snapshot alone.
     MostRecent,
@@ -10,7 +10,7 @@ pub enum Initial {
 }
 
 /// What a replication step leaves on the source before it begins.
-#[derive(Clone, Copy, Debug, PartialEq, Eq)]
+#[derive(Clone, Copy, PartialEq, Eq)]
 pub enum Protection {
     /// A hold on the snapshot that is sent, so that an interrupted step can be resumed.
     Resumability,

@@ -1,26 +1,15 @@
 ghost use Rattle.std.specs.Prelude.{◌≡◌, ◌<◌, length, slice_index};
-ghost use Rattle.zr_names.specs.Names.{
-  begins_component,
-  ends_component,
-  is_dots,
-  is_name_byte,
-  name_is_bad,
-  path_is_bad,
-  Reads,
-  slash_is_bad,
-  tag_is_bad,
-  token_is_bad,
-};
+ghost use Rattle.zr_names.specs.Names.{begins_component, ends_component, is_dots, is_name_byte, name_is_bad, path_is_bad, Reads, slash_is_bad, tag_is_bad, token_is_bad};
 
-use crate::bytes::Bytes;
 use crate::names::{
     JOB_LIMIT, JobName, MarkName, NAME_LIMIT, PATH_LIMIT, Path, Prefix, SnapName, TOKEN_LIMIT, Tag,
     TokenText,
 };
 use std::alloc::{AllocError, Global};
+use zr_base::Bytes;
 
 /// Why a text is no name: the place counts bytes from 0, the length is in bytes.
-#[derive(Clone, Copy, Debug, PartialEq, Eq)]
+#[derive(Clone, Copy, PartialEq, Eq)]
 pub enum NameFault {
     Empty,
     BadByte(usize),
@@ -40,7 +29,7 @@ impl From<AllocError> for NameFault {
 }
 
 /// The rule by which a place of a text is bad.
-#[derive(Clone, Copy, Debug, PartialEq, Eq)]
+#[derive(Clone, Copy, PartialEq, Eq)]
 pub enum Alphabet {
     Path,
     Name,

@@ -4,7 +4,7 @@ ghost use Rattle.zr_names.specs.Totals.{counted, summed};
 use crate::outcome::Outcome;
 
 /// How many units were due, were done and ended in which way. A total stays at `u64::MAX` once there.
-#[derive(Clone, Copy, Debug, Default, PartialEq, Eq)]
+#[derive(Clone, Copy, Default, PartialEq, Eq)]
 pub struct Totals {
     pub due: u64,
     pub done: u64,

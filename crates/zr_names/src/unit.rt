@@ -5,11 +5,11 @@ use crate::names::{Path, Prefix};
 use std::alloc::AllocError;
 
 /// What ZFS gives each snapshot and what it keeps in each copy of it (zfs(8), property `guid`).
-#[derive(Clone, Copy, Debug, PartialEq, Eq, PartialOrd, Ord)]
+#[derive(Clone, Copy, PartialEq, Eq, PartialOrd, Ord)]
 pub struct Guid(pub u64);
 
 /// What a unit of work does, and on which dataset.
-#[derive(Clone, Debug, PartialEq, Eq, Drop)]
+#[derive(Drop)]
 pub enum Work {
     /// Lists the datasets and finds the job's other units.
     Scan,
@@ -26,7 +26,7 @@ pub enum Work {
 }
 
 /// One piece of work of a job, by the job's place in the job file, and the moment of its scan.
-#[derive(Clone, Debug, PartialEq, Eq, Drop)]
+#[derive(Drop)]
 pub struct Unit {
     pub job: u32,
     pub moment: Moment,

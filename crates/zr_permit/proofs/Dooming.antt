@@ -3,11 +3,11 @@ use Rattle.std.specs.Bool.{if◌then◌else◌}
 use Rattle.std.specs.List.{All, AllPairs}
 use Rattle.std.proofs.lemmas.List.Elements.{All-cons, All-head, All-nil, All-tail}
 use Rattle.std.proofs.lemmas.List.Kept.{AllPairs-cons}
-use Rattle.zr_names.proofs.Lists.{AllPairs-head, AllPairs-nil, AllPairs-tail}
-use Rattle.zr_world.specs.declared.version.VersionName.{VersionName}
-use Rattle.zr_world.specs.declared.version.VersionName.TheVariants.{Snap, Mark}
-use Rattle.zr_world.specs.declared.version.VersionRow.{VersionRow}
-use Rattle.zr_permit.specs.declared.job.RuleSpec.{RuleSpec}
+use Rattle.zr_base.proofs.Lists.{AllPairs-head, AllPairs-nil, AllPairs-tail}
+use Rattle.zr_command.specs.declared.version.VersionName.{VersionName}
+use Rattle.zr_command.specs.declared.version.VersionName.TheVariants.{Snap, Mark}
+use Rattle.zr_command.specs.declared.version.VersionRow.{VersionRow}
+use Rattle.zr_jobs.specs.declared.job.RuleSpec.{RuleSpec}
 use Rattle.zr_permit.specs.Keep.{doomed, going, going_from, retained}
 
 -- a row names this snapshot only where P holds of it

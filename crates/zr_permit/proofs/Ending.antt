@@ -1,9 +1,9 @@
 use Rattle.std.proofs.Common.{◌≡◌, ◌≢◌, ◌∙◌, ℕ, ◌+◌, [], ◌∷◌, ◌++◌, Some, ap, refl, length, length-append, slice_get, arith}
 use Rattle.zr_names.specs.declared.unit.Unit.{Unit}
-use Rattle.zr_world.specs.declared.command.Answer.{Answer}
-use Rattle.zr_world.specs.declared.command.Answer.TheVariants as answer
-use Rattle.zr_world.specs.declared.command.Cmd.{Cmd}
-use Rattle.zr_permit.specs.declared.job.JobSet.{JobSet}
+use Rattle.zr_command.specs.declared.command.Answer.{Answer}
+use Rattle.zr_command.specs.declared.command.Answer.TheVariants as answer
+use Rattle.zr_command.specs.declared.command.Cmd.{Cmd}
+use Rattle.zr_jobs.specs.declared.job.JobSet.{JobSet}
 use Rattle.zr_permit.specs.declared.told.Told.{Told}
 use Rattle.zr_permit.specs.declared.told.Told.TheVariants as told
 use Rattle.zr_permit.specs.Result.{capped, ended_as, ResultOf}

@@ -1,8 +1,8 @@
 use Rattle.std.proofs.Common.{◌≡◌, [], ◌∷◌, ◌++◌, subst, sym, append_assoc, append-nil}
 use Rattle.zr_names.specs.declared.unit.Unit.{Unit}
-use Rattle.zr_world.specs.declared.command.Answer.{Answer}
-use Rattle.zr_world.specs.declared.command.Cmd.{Cmd}
-use Rattle.zr_permit.specs.declared.job.JobSet.{JobSet}
+use Rattle.zr_command.specs.declared.command.Answer.{Answer}
+use Rattle.zr_command.specs.declared.command.Cmd.{Cmd}
+use Rattle.zr_jobs.specs.declared.job.JobSet.{JobSet}
 use Rattle.zr_permit.specs.Transcript.{Allowed, LegalAfter, Legal, Transcript}
 
 legal_after-more : (jobs : JobSet) (unit : Unit) (past turns : Transcript) (command : Cmd) (given : Answer) → LegalAfter jobs unit past turns → Allowed jobs unit (past ++ turns) command → LegalAfter jobs unit past (turns ++ (command, given) ∷ [])

@@ -6,4 +6,3 @@ pub mod Listing
 pub mod Honest
 pub mod Running
 pub mod Reading
-pub mod Pairs

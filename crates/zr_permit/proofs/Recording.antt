@@ -1,13 +1,13 @@
 use Rattle.std.proofs.Common.{◌≡◌, ◌∙◌, List, [], ◌∷◌, ◌++◌, Option, Some, None, ap, inl, inr, refl, sym, append_assoc}
 use Rattle.zr_names.specs.declared.unit.Unit.{Unit}
-use Rattle.zr_world.specs.declared.command.Answer.{Answer}
-use Rattle.zr_world.specs.declared.command.Answer.TheVariants as answer
-use Rattle.zr_world.specs.declared.command.Cmd.{Cmd}
-use Rattle.zr_world.specs.declared.command.Entry.{Entry}
-use Rattle.zr_world.specs.declared.command.Entry.TheVariants.{Call}
+use Rattle.zr_command.specs.declared.command.Answer.{Answer}
+use Rattle.zr_command.specs.declared.command.Answer.TheVariants as answer
+use Rattle.zr_command.specs.declared.command.Cmd.{Cmd}
+use Rattle.zr_command.specs.declared.command.Entry.{Entry}
+use Rattle.zr_command.specs.declared.command.Entry.TheVariants.{Call}
 use Rattle.zr_world.specs.Answering.{appended, Logs}
-use Rattle.zr_world.specs.Plain.{plain}
-use Rattle.zr_permit.specs.declared.job.JobSet.{JobSet}
+use Rattle.zr_command.specs.Plain.{plain}
+use Rattle.zr_jobs.specs.declared.job.JobSet.{JobSet}
 use Rattle.zr_permit.specs.Transcript.{Allowed, Legal, Transcript}
 use Rattle.zr_permit.specs.Turned.{calls, Records, RecordsLegal, RecordsRun, told_of}
 use Rattle.zr_permit.proofs.Legality.{legal-more}

@@ -1,18 +1,11 @@
-use Rattle.std.specs.Prelude.{◌==◌, ◌&&◌, ◌||◌, ℕ, ◌+◌, Bool, true, false, not, if◌then◌else◌, List, [], ◌∷◌, ◌++◌, nat_lt, count_by}
+use Rattle.std.specs.Prelude.{◌==◌, ◌&&◌, ◌||◌, ℕ, ◌+◌, Bool, not, if◌then◌else◌, List, [], ◌∷◌, ◌++◌, nat_lt, count_by}
 use Rattle.std.specs.List.{list_any}
-use Rattle.zr_world.specs.declared.version.VersionName.{VersionName}
-use Rattle.zr_world.specs.declared.version.VersionName.TheVariants.{Snap, Mark}
-use Rattle.zr_world.specs.declared.version.VersionRow.{VersionRow}
-use Rattle.zr_permit.specs.declared.job.RuleSpec.{RuleSpec}
-use Rattle.zr_permit.specs.declared.job.RuleSpec.TheVariants.{LastN}
-
-abbrev pub is_snap_name : VersionName → Bool
-is_snap_name (Snap name) = true
-is_snap_name (Mark name) = false
-
--- a row of a listing is a snapshot
-abbrev pub is_snap : VersionRow → Bool
-is_snap row = is_snap_name row.name
+use Rattle.zr_command.specs.Kinds.{is_snap}
+use Rattle.zr_command.specs.declared.version.VersionName.{VersionName}
+use Rattle.zr_command.specs.declared.version.VersionName.TheVariants.{Snap, Mark}
+use Rattle.zr_command.specs.declared.version.VersionRow.{VersionRow}
+use Rattle.zr_jobs.specs.declared.job.RuleSpec.{RuleSpec}
+use Rattle.zr_jobs.specs.declared.job.RuleSpec.TheVariants.{LastN}
 
 -- of two snapshots the newer is the one with the greater creation, or with equal creation and the
 -- greater transaction group

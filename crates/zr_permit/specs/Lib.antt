@@ -1,5 +1,4 @@
 pub mod Honest
-pub mod Jobs
 pub mod Keep
 pub mod Result
 pub mod Runs

@@ -4,19 +4,19 @@ use Rattle.zr_names.specs.declared.outcome.Outcome.TheVariants as outcome
 use Rattle.zr_names.specs.declared.unit.Unit.{Unit}
 use Rattle.zr_names.specs.declared.unit.Work.{Work}
 use Rattle.zr_names.specs.declared.unit.Work.TheVariants as work
-use Rattle.zr_world.specs.declared.command.Answer.{Answer}
-use Rattle.zr_world.specs.declared.command.Answer.TheVariants as answer
-use Rattle.zr_world.specs.declared.command.Cmd.{Cmd}
-use Rattle.zr_world.specs.declared.command.Cmd.TheVariants as cmd
-use Rattle.zr_world.specs.declared.command.Reply.TheVariants as reply
-use Rattle.zr_world.specs.declared.version.SetRow.{SetRow}
-use Rattle.zr_world.specs.declared.version.VersionRow.{VersionRow}
-use Rattle.zr_permit.specs.declared.job.JobSet.{JobSet}
-use Rattle.zr_known.specs.declared.known.Pair.{Pair}
+use Rattle.zr_command.specs.declared.command.Answer.{Answer}
+use Rattle.zr_command.specs.declared.command.Answer.TheVariants as answer
+use Rattle.zr_command.specs.declared.command.Cmd.{Cmd}
+use Rattle.zr_command.specs.declared.command.Cmd.TheVariants as cmd
+use Rattle.zr_command.specs.declared.command.Reply.TheVariants as reply
+use Rattle.zr_command.specs.declared.version.SetRow.{SetRow}
+use Rattle.zr_command.specs.declared.version.VersionRow.{VersionRow}
+use Rattle.zr_jobs.specs.declared.job.JobSet.{JobSet}
+use Rattle.zr_jobs.specs.declared.pair.Pair.{Pair}
 use Rattle.zr_known.specs.declared.straight.TheConstants.{NOT_STRAIGHT}
 use Rattle.zr_permit.specs.declared.told.Told.{Told}
 use Rattle.zr_permit.specs.declared.told.Told.TheVariants as told
-use Rattle.zr_permit.specs.Jobs.{fits_in, job_at, matched, pair_of, rules_of}
+use Rattle.zr_jobs.specs.Jobs.{fits_in, job_at, matched, pair_of, rules_of}
 use Rattle.zr_permit.specs.Keep.{doomed}
 use Rattle.zr_known.specs.Known.{known_of}
 use Rattle.zr_known.specs.Straight.{has_listed, is_listing, is_straight, IsFinished}

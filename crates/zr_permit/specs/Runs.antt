@@ -2,10 +2,10 @@ use Rattle.std.specs.Prelude.{◌≡◌, ◌⊎◌, ℕ, false, List, ◌∷◌,
 use Rattle.zr_names.specs.declared.outcome.Outcome.{Outcome}
 use Rattle.zr_names.specs.declared.outcome.Outcome.TheVariants as outcome
 use Rattle.zr_names.specs.declared.unit.Unit.{Unit}
-use Rattle.zr_world.specs.declared.command.Entry.{Entry}
-use Rattle.zr_world.specs.declared.command.Entry.TheVariants.{Begin}
+use Rattle.zr_command.specs.declared.command.Entry.{Entry}
+use Rattle.zr_command.specs.declared.command.Entry.TheVariants.{Begin}
 use Rattle.zr_world.specs.Answering.{appended}
-use Rattle.zr_permit.specs.declared.job.JobSet.{JobSet}
+use Rattle.zr_jobs.specs.declared.job.JobSet.{JobSet}
 use Rattle.zr_permit.specs.Result.{is_out_of_memory, ResultOf}
 use Rattle.zr_permit.specs.Transcript.{Legal, Transcript}
 use Rattle.zr_permit.specs.Turned.{calls}

@@ -1,6 +1,6 @@
 use Rattle.std.specs.Prelude.{ℕ}
 use Rattle.zr_names.specs.declared.unit.Unit.{Unit}
-use Rattle.zr_permit.specs.declared.job.JobSet.{JobSet}
+use Rattle.zr_jobs.specs.declared.job.JobSet.{JobSet}
 use Rattle.zr_permit.specs.Transcript.{Transcript}
 
 -- a unit at work: the job file, the unit, what it asked and was told, and for how many turns there is room

@@ -3,16 +3,16 @@ use Rattle.std.specs.Cmp.Lexicographic.{pointwise}
 use Rattle.zr_names.specs.declared.unit.Unit.{Unit}
 use Rattle.zr_names.specs.declared.unit.Work.{Work}
 use Rattle.zr_names.specs.declared.unit.Work.TheVariants as work
-use Rattle.zr_world.specs.declared.command.Answer.{Answer}
-use Rattle.zr_world.specs.declared.command.Answer.TheVariants as answer
-use Rattle.zr_world.specs.declared.command.Cmd.{Cmd}
-use Rattle.zr_world.specs.declared.command.Cmd.TheVariants as cmd
-use Rattle.zr_world.specs.declared.command.Reply.TheVariants as reply
-use Rattle.zr_world.specs.declared.version.VersionRow.{VersionRow}
-use Rattle.zr_permit.specs.declared.job.JobSet.{JobSet}
-use Rattle.zr_permit.specs.Jobs.{job_at, pair_of, rules_of}
+use Rattle.zr_command.specs.declared.command.Answer.{Answer}
+use Rattle.zr_command.specs.declared.command.Answer.TheVariants as answer
+use Rattle.zr_command.specs.declared.command.Cmd.{Cmd}
+use Rattle.zr_command.specs.declared.command.Cmd.TheVariants as cmd
+use Rattle.zr_command.specs.declared.command.Reply.TheVariants as reply
+use Rattle.zr_command.specs.declared.version.VersionRow.{VersionRow}
+use Rattle.zr_jobs.specs.declared.job.JobSet.{JobSet}
+use Rattle.zr_jobs.specs.Jobs.{job_at, pair_of, rules_of}
 use Rattle.zr_permit.specs.Keep.{doomed}
-use Rattle.zr_known.specs.declared.known.Pair.{Pair}
+use Rattle.zr_jobs.specs.declared.pair.Pair.{Pair}
 use Rattle.zr_known.specs.Known.{known_of}
 use Rattle.zr_known.specs.Replication.{MayGive}
 

@@ -1,17 +1,17 @@
 use Rattle.std.specs.Prelude.{◌≡◌, ◌⊎◌, Bool, true, false, List, [], ◌∷◌, ◌++◌, ◌-◌, Option, length, map, option_map, slice_get}
-use Rattle.zr_world.specs.declared.command.Answer.{Answer}
-use Rattle.zr_world.specs.declared.command.Answer.TheVariants as answer
-use Rattle.zr_world.specs.declared.command.Cmd.{Cmd}
-use Rattle.zr_world.specs.declared.command.Entry.{Entry}
-use Rattle.zr_world.specs.declared.command.Entry.TheVariants.{Call}
+use Rattle.zr_command.specs.declared.command.Answer.{Answer}
+use Rattle.zr_command.specs.declared.command.Answer.TheVariants as answer
+use Rattle.zr_command.specs.declared.command.Cmd.{Cmd}
+use Rattle.zr_command.specs.declared.command.Entry.{Entry}
+use Rattle.zr_command.specs.declared.command.Entry.TheVariants.{Call}
 use Rattle.zr_world.specs.Answering.{appended, Fits}
-use Rattle.zr_world.specs.Plain.{plain}
+use Rattle.zr_command.specs.Plain.{plain}
 use Rattle.zr_permit.specs.declared.told.Told.{Told}
 use Rattle.zr_permit.specs.declared.told.Told.TheVariants as told
 use Rattle.zr_names.specs.declared.outcome.Outcome.{Outcome}
 use Rattle.zr_names.specs.declared.outcome.Outcome.TheVariants as outcome
 use Rattle.zr_names.specs.declared.unit.Unit.{Unit}
-use Rattle.zr_permit.specs.declared.job.JobSet.{JobSet}
+use Rattle.zr_jobs.specs.declared.job.JobSet.{JobSet}
 use Rattle.zr_permit.specs.Transcript.{Legal, Transcript, Turn}
 
 -- what a unit is told of an answer

@@ -1,9 +1,10 @@
-use crate::job::JobSet;
 use crate::log::Log;
 use crate::told::Told;
 use std::alloc::Global;
+use zr_command::{Answer, Cmd};
+use zr_jobs::JobSet;
 use zr_names::{Outcome, Unit};
-use zr_world::{Answer, Cmd, Zfs};
+use zr_world::Zfs;
 
 /// A unit at work with its runner. It gives only commands that it is allowed to give.
 #[derive(Drop)]
@@ -24,15 +25,15 @@ pub struct Unbegun<'a, Z> {
 
 impl<'a, Z: Zfs> Guarded<'a, Z> {
     ghost use Rattle.std.specs.Prelude.{◌≡◌, ◌≢◌, ◌≤◌, ◌<◌, ◌++◌, ◌∷◌, [], IfOk, IfErr, List, Option, false, length};
-    ghost use Rattle.zr_permit.specs.Jobs.{IsOfFile};
+    ghost use Rattle.zr_jobs.specs.Jobs.{IsOfFile};
     ghost use Rattle.zr_permit.specs.Result.{ended_as};
     ghost use Rattle.zr_permit.specs.Transcript.{Allowed, Legal};
     ghost use Rattle.std.specs.Option.{option_copied};
     ghost use Rattle.zr_permit.specs.Turned.{last_answer, Records, RecordsRun, Turns, is_short};
     ghost use Rattle.zr_world.specs.Answering.{appended};
-    ghost use Rattle.zr_world.specs.declared.command.Entry.{Entry};
-    ghost use Rattle.zr_world.specs.declared.command.Entry.TheVariants.{Begin};
-    ghost use Rattle.zr_names.specs.Count.{Rose};
+    ghost use Rattle.zr_command.specs.declared.command.Entry.{Entry};
+    ghost use Rattle.zr_command.specs.declared.command.Entry.TheVariants.{Begin};
+    ghost use Rattle.zr_base.specs.Count.{Rose};
 
     /// Begins a run of a unit of the job file.
     pub fn begin(
@@ -138,6 +139,8 @@ impl<'a, Z: Zfs> Guarded<'a, Z> {
         let _legal = self.log.turns();
         if self.log.make_room().is_err() {
             self.short = true;
+            // Let go here: at the early exit it would be proved again.
+            drop(cmd);
             return Told::NoMemory;
         }
         let answer = self.z.run(&cmd);

@@ -1,26 +1,10 @@
 ghost use Rattle.std.specs.Prelude.{◌≡◌, ◌<◌, IfOk, OnOk, OnErr, ◌++◌};
-ghost use Rattle.zr_permit.specs.Keep.{
-  doomed,
-  going,
-  going_from,
-  is_as_old,
-  is_newer,
-  is_snap,
-  keeps,
-  newer_count,
-  retained,
-};
+ghost use Rattle.zr_permit.specs.Keep.{doomed, going, going_from, is_as_old, is_newer, keeps, newer_count, retained};
 
-use crate::job::RuleSpec;
 use std::alloc::{AllocError, Global};
+use zr_command::{VersionName, VersionRow, is_snap};
+use zr_jobs::RuleSpec;
 use zr_names::{Same, SnapName};
-use zr_world::{VersionName, VersionRow};
-
-fn is_snap(row: &VersionRow) -> bool
-    ensures { result ≡ is_snap row.now }
-{
-    matches!(row.name, VersionName::Snap(_))
-}
 
 fn is_newer(row: &VersionRow, other: &VersionRow) -> bool
     ensures { result ≡ is_newer row.now other.now }
@@ -49,17 +33,12 @@ fn newer_count(rows: &[VersionRow], row: &VersionRow, later: &[VersionRow]) -> u
     newer + as_old
 }
 
-impl RuleSpec {
-    ghost use Rattle.std.specs.Prelude.{◌≡◌};
-    ghost use Rattle.zr_permit.specs.Keep.{keeps};
-
-    /// Whether the rule keeps a snapshot of a listing, which these later rows follow.
-    fn keeps(&self, rows: &[VersionRow], row: &VersionRow, later: &[VersionRow]) -> bool
-        ensures { result ≡ keeps rows.now row.now later.now self.now }
-    {
-        match self {
-            RuleSpec::LastN { count } => newer_count(rows, row, later) < *count as usize,
-        }
+/// Whether a rule keeps a snapshot of a listing, which these later rows follow.
+fn keeps(rule: &RuleSpec, rows: &[VersionRow], row: &VersionRow, later: &[VersionRow]) -> bool
+    ensures { result ≡ keeps rows.now row.now later.now rule.now }
+{
+    match rule {
+        RuleSpec::LastN { count } => newer_count(rows, row, later) < *count as usize,
     }
 }
 
@@ -71,7 +50,7 @@ fn is_retained(
 ) -> bool
     ensures { result ≡ retained rules.now rows.now row.now later.now }
 {
-    rules.iter().any(|rule| rule.keeps(rows, row, later))
+    rules.iter().any(|rule| keeps(rule, rows, row, later))
 }
 
 /// Notes the name of a row if it is a snapshot with no holds that no rule keeps.

@@ -1,6 +1,6 @@
 ghost use Rattle.std.specs.Prelude.{◌≡◌};
 ghost use Rattle.zr_names.specs.declared.unit.Unit.{Unit};
-ghost use Rattle.zr_permit.specs.declared.job.JobSet.{JobSet};
+ghost use Rattle.zr_jobs.specs.declared.job.JobSet.{JobSet};
 ghost use Rattle.zr_permit.specs.Transcript.{Legal, Transcript};
 ghost use Rattle.zr_permit.specs.Turned.{calls};
 

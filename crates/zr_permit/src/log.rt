@@ -1,8 +1,8 @@
-use crate::job::JobSet;
 use std::alloc::{AllocError, Global};
 use std::marker::Model;
+use zr_command::{Answer, Cmd};
+use zr_jobs::JobSet;
 use zr_names::Unit;
-use zr_world::{Answer, Cmd};
 
 /// What a unit asked and was told so far. Each command was allowed when it was given.
 #[derive(Drop)]

@@ -1,7 +1,7 @@
-use zr_world::Answer;
+use zr_command::Answer;
 
 /// What a unit is told of a command.
-#[derive(Clone, Copy, Debug, PartialEq, Eq)]
+#[derive(Clone, Copy, PartialEq, Eq)]
 pub enum Told {
     Done,
     Failed,

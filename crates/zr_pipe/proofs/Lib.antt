@@ -1,3 +1,2 @@
 pub mod EndsLemmas
 pub mod RelayLemmas
-pub mod Told

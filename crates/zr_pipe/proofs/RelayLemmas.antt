@@ -8,10 +8,6 @@ use Rattle.zr_pipe.specs.Ends.{IsNoneAtEnd, WroteFront}
 use Rattle.zr_pipe.specs.Relay.{piece_max, relay_max, EndsBy, Relayed, Carried, Stopped}
 use Rattle.zr_pipe.proofs.EndsLemmas.{append_known-append, append_known-nil, prepend_known-append, prepend_known-nil}
 
--- nothing was moved yet
-pub carried_none : (left written : Option (List ℕ)) → Carried left left written written 0
-carried_none left written = record { whole = []; taken = sym (prepend_known-nil left); put = sym (append_known-nil written); moved_is = refl }
-
 pub carried_more : (left left' left'' written written' written'' : Option (List ℕ)) (moved more : ℕ)
     → Carried left left' written written' moved → Carried left' left'' written' written'' more
     → Carried left left'' written written'' (moved + more)

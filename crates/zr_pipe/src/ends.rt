@@ -4,7 +4,7 @@ ghost use Rattle.zr_pipe.specs.Faults.{Rose};
 ghost use Rattle.zr_pipe.specs.Ends.{IsNoneAtEnd, WroteFront};
 
 /// A read that failed.
-#[derive(Clone, Copy, Debug, PartialEq, Eq)]
+#[derive(Clone, Copy, PartialEq, Eq)]
 pub struct Failed;
 
 /// Where bytes come from.
@@ -31,7 +31,7 @@ pub trait Source {
 }
 
 /// Why a piece was not put whole.
-#[derive(Clone, Copy, Debug, PartialEq, Eq)]
+#[derive(Clone, Copy, PartialEq, Eq)]
 pub enum PutFault {
     Failed,
     NoMemory,

@@ -11,7 +11,7 @@ pub const PIECE: usize = 65_536;
 pub const LIMIT: u64 = 1 << 62;
 
 /// How a relay ended. The numbers count the bytes of the pieces that were put whole.
-#[derive(Clone, Copy, Debug, PartialEq, Eq)]
+#[derive(Clone, Copy, PartialEq, Eq)]
 pub enum RelayEnd {
     /// The source came to its end, and all of it was put.
     Whole(u64),

@@ -4,16 +4,17 @@ use Rattle.std.specs.List.{list_any}
 use Rattle.zr_names.specs.declared.policy.Initial.{Initial}
 use Rattle.zr_names.specs.declared.policy.Initial.TheVariants as initially
 use Rattle.zr_plan.specs.Laws.{IsCaughtUp}
-use Rattle.zr_plan.specs.Plan.{conflict_plan, has_nothing, initial_plan, is_later, is_snap, names_snap, newest, newest_common, own_version, plan_after, plan_from, plan_with, resume, resume_if, step_to, steps_of, steps_plan}
+use Rattle.zr_plan.specs.Plan.{conflict_plan, has_nothing, initial_plan, is_later, newest_common, own_version, plan_after, plan_from, plan_with, resume, resume_if, step_to, steps_of, steps_plan}
+use Rattle.zr_command.specs.Kinds.{is_snap, names_snap, newest}
 use Rattle.zr_plan.specs.declared.target.Conflict.TheVariants.{NoSenderSnapshots}
 use Rattle.zr_plan.specs.declared.target.Planned.{Planned}
 use Rattle.zr_plan.specs.declared.target.Planned.TheVariants.{UpToDate, Conflict}
 use Rattle.zr_plan.specs.declared.target.Step.{Step}
 use Rattle.zr_plan.specs.declared.target.Target.{Target}
 use Rattle.zr_plan.specs.declared.target.TokenInfo.{TokenInfo}
-use Rattle.zr_world.specs.declared.version.VersionName.{VersionName}
-use Rattle.zr_world.specs.declared.version.VersionName.TheVariants.{Snap, Mark}
-use Rattle.zr_world.specs.declared.version.VersionRow.{VersionRow}
+use Rattle.zr_command.specs.declared.version.VersionName.{VersionName}
+use Rattle.zr_command.specs.declared.version.VersionName.TheVariants.{Snap, Mark}
+use Rattle.zr_command.specs.declared.version.VersionRow.{VersionRow}
 
 -- a row that gives no step is no snapshot
 none_named : (row : VersionRow) (name : VersionName) (rest : List Step) (others : Bool) → (rest ≡ [] → others ≡ false) → step_to row name ++ rest ≡ [] → (names_snap name || others) ≡ false

@@ -2,16 +2,17 @@ use Rattle.std.proofs.Common.{rules, ◌≡◌, ◌++◌, ℕ, Bool, true, false
 use Rattle.std.specs.Prelude.{Option, Some, None}
 use Rattle.std.specs.List.{list_any}
 use Rattle.zr_names.specs.declared.policy.Initial.{Initial}
-use Rattle.zr_plan.specs.Plan.{conflict_plan, has_nothing, initial_plan, is_later, newest, newest_common, own_version, plan_after, plan_from, plan_with, resume, resume_if, step_to, steps_of, steps_plan}
+use Rattle.zr_plan.specs.Plan.{conflict_plan, has_nothing, initial_plan, is_later, newest_common, own_version, plan_after, plan_from, plan_with, resume, resume_if, step_to, steps_of, steps_plan}
+use Rattle.zr_command.specs.Kinds.{newest}
 use Rattle.zr_plan.specs.declared.target.Conflict.TheVariants.{NoSenderSnapshots}
 use Rattle.zr_plan.specs.declared.target.Planned.{Planned}
 use Rattle.zr_plan.specs.declared.target.Planned.TheVariants.{Steps, Conflict}
 use Rattle.zr_plan.specs.declared.target.Step.{Step}
 use Rattle.zr_plan.specs.declared.target.Target.{Target}
 use Rattle.zr_plan.specs.declared.target.TokenInfo.{TokenInfo}
-use Rattle.zr_world.specs.declared.version.VersionName.{VersionName}
-use Rattle.zr_world.specs.declared.version.VersionName.TheVariants.{Snap, Mark}
-use Rattle.zr_world.specs.declared.version.VersionRow.{VersionRow}
+use Rattle.zr_command.specs.declared.version.VersionName.{VersionName}
+use Rattle.zr_command.specs.declared.version.VersionName.TheVariants.{Snap, Mark}
+use Rattle.zr_command.specs.declared.version.VersionRow.{VersionRow}
 
 -- some step is in full
 abbrev some_full : List Step → Bool

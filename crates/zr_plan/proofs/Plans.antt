@@ -4,16 +4,17 @@ use Rattle.std.specs.List.{list_any}
 use Rattle.zr_names.specs.declared.policy.Initial.{Initial}
 use Rattle.zr_names.specs.declared.unit.Guid.{Guid}
 use Rattle.zr_plan.specs.Laws.{GoesOn, IsResumeOf}
-use Rattle.zr_plan.specs.Plan.{can_go_on, has_nothing, initial_plan, is_snap_of, newest, own_version, plan_after, plan_from, plan_with, names_snap, partial_plan, resume, resume_if, steps_plan}
+use Rattle.zr_plan.specs.Plan.{can_go_on, has_nothing, initial_plan, own_version, plan_after, plan_from, plan_with, partial_plan, resume, resume_if, steps_plan}
+use Rattle.zr_command.specs.Kinds.{is_snap_of, newest, names_snap}
 use Rattle.zr_plan.specs.declared.target.Conflict.TheVariants.{NoSenderSnapshots}
 use Rattle.zr_plan.specs.declared.target.Planned.{Planned}
 use Rattle.zr_plan.specs.declared.target.Planned.TheVariants.{Conflict}
 use Rattle.zr_plan.specs.declared.target.Step.{Step}
 use Rattle.zr_plan.specs.declared.target.Target.{Target}
 use Rattle.zr_plan.specs.declared.target.TokenInfo.{TokenInfo}
-use Rattle.zr_world.specs.declared.version.VersionName.{VersionName}
-use Rattle.zr_world.specs.declared.version.VersionName.TheVariants.{Snap, Mark}
-use Rattle.zr_world.specs.declared.version.VersionRow.{VersionRow}
+use Rattle.zr_command.specs.declared.version.VersionName.{VersionName}
+use Rattle.zr_command.specs.declared.version.VersionName.TheVariants.{Snap, Mark}
+use Rattle.zr_command.specs.declared.version.VersionRow.{VersionRow}
 
 -- steps are no conflict
 pub steps_go_on : (steps : List Step) → GoesOn (steps_plan steps)

@@ -1,8 +1,9 @@
 use Rattle.std.specs.Prelude.{◌≡◌, ◌&&◌, Bool, false, ℕ, List, Some, ⊤}
 use Rattle.std.specs.List.{list_any}
 use Rattle.zr_names.specs.declared.unit.Guid.{Guid}
-use Rattle.zr_world.specs.declared.version.VersionRow.{VersionRow}
-use Rattle.zr_plan.specs.Plan.{is_later, is_snap, newest, own_version}
+use Rattle.zr_command.specs.declared.version.VersionRow.{VersionRow}
+use Rattle.zr_plan.specs.Plan.{is_later, own_version}
+use Rattle.zr_command.specs.Kinds.{is_snap, newest}
 use Rattle.zr_plan.specs.declared.target.Conflict.TheVariants.{NoSenderSnapshots}
 use Rattle.zr_plan.specs.declared.target.Planned.{Planned}
 use Rattle.zr_plan.specs.declared.target.Planned.TheVariants.{Resume, Conflict}

@@ -2,12 +2,13 @@ ghost use Rattle.std.specs.List.{list_any};
 ghost use Rattle.std.specs.Prelude.{◌≡◌, List, None, Some, ℕ, false, is_some, true};
 ghost use Rattle.zr_names.specs.declared.policy.Initial.{Initial};
 ghost use Rattle.zr_plan.specs.Laws.{GoesOn, IsCaughtUp, IsResumeOf};
-ghost use Rattle.zr_plan.specs.Plan.{can_go_on, has_nothing, is_snap_of, newest, own_version, plan_of};
+ghost use Rattle.zr_plan.specs.Plan.{can_go_on, has_nothing, own_version, plan_of};
+ghost use Rattle.zr_command.specs.Kinds.{is_snap_of, newest};
 ghost use Rattle.zr_plan.specs.declared.target.Planned.TheVariants.{Steps, UpToDate};
 ghost use Rattle.zr_plan.specs.declared.target.Step.{Step};
 ghost use Rattle.zr_plan.specs.declared.target.Target.{Target};
 ghost use Rattle.zr_plan.specs.declared.target.TokenInfo.{TokenInfo};
-ghost use Rattle.zr_world.specs.declared.version.VersionRow.{VersionRow};
+ghost use Rattle.zr_command.specs.declared.version.VersionRow.{VersionRow};
 
 /// Where the source has an own version of the target's last snapshot, replication goes on.
 pub fn a_known_last_snapshot_goes_on()

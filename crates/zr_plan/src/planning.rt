@@ -1,35 +1,15 @@
 ghost use Rattle.std.specs.Prelude.{◌≡◌, ◌++◌, IfOk, OnOk, filter, find, is_some, nat_lt, option_to_list, option_map};
 ghost use Rattle.std.specs.Option.{option_copied};
-ghost use Rattle.zr_world.specs.declared.version.VersionRow.{VersionRow};
-ghost use Rattle.zr_plan.specs.Plan.{
-  can_go_on,
-  conflict_plan,
-  has_nothing,
-  in_full,
-  initial_plan,
-  is_common,
-  is_cursor_of,
-  is_later,
-  is_snap,
-  is_snap_of,
-  is_tentative_of,
-  newest,
-  newest_common,
-  own_version,
-  partial_plan,
-  plan_after,
-  plan_from,
-  plan_of,
-  step_to,
-  steps_of,
-  steps_plan,
-};
+ghost use Rattle.zr_command.specs.declared.version.VersionRow.{VersionRow};
+ghost use Rattle.zr_plan.specs.Plan.{can_go_on, conflict_plan, has_nothing, in_full, initial_plan, is_common, is_later, newest_common, own_version, partial_plan, plan_after, plan_from, plan_of, step_to, steps_of, steps_plan};
+ghost use Rattle.zr_command.specs.Kinds.{is_cursor_of, is_snap, is_snap_of, is_tentative_of, newest};
 
 use crate::target::{Conflict, Planned, Step, Target, TokenInfo};
-use crate::versions::{is_cursor_of, is_snap, is_snap_of, is_tentative_of, newest};
 use std::alloc::Global;
+use zr_command::{
+    VersionName, VersionRow, is_cursor_of, is_snap, is_snap_of, is_tentative_of, newest,
+};
 use zr_names::{Guid, Initial, JobName, NoMemory, Rows, Same};
-use zr_world::{VersionName, VersionRow};
 
 fn cursor_of<'a>(job: &JobName, source: &'a [VersionRow], guid: Guid) -> Option<&'a VersionRow>
     ensures { option_copied result ≡ find (is_cursor_of job.now guid) source.now }

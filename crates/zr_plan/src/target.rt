@@ -1,8 +1,8 @@
+use zr_command::VersionRow;
 use zr_names::{Guid, Rows, SnapName};
-use zr_world::VersionRow;
 
 /// What the resume token of a partial receive tells of the send that was cut (zfs(8), `send -nvt`).
-#[derive(Clone, Copy, Debug, PartialEq, Eq)]
+#[derive(Clone, Copy, PartialEq, Eq)]
 pub struct TokenInfo {
     /// The snapshot that was being received.
     pub to: Guid,
@@ -11,7 +11,7 @@ pub struct TokenInfo {
 }
 
 /// What is known of a replication's target.
-#[derive(Debug, Drop)]
+#[derive(Drop)]
 pub struct Target {
     /// Whether the dataset is there.
     pub there: bool,
@@ -24,7 +24,7 @@ pub struct Target {
 }
 
 /// One transfer of a snapshot of the source.
-#[derive(Debug, Drop)]
+#[derive(Drop)]
 pub struct Step {
     pub to: SnapName,
     pub guid: Guid,
@@ -33,7 +33,7 @@ pub struct Step {
 }
 
 /// Why replication can't go on by itself.
-#[derive(Clone, Copy, Debug, PartialEq, Eq)]
+#[derive(Clone, Copy, PartialEq, Eq)]
 pub enum Conflict {
     /// The source has no snapshot.
     NoSenderSnapshots,
@@ -66,7 +66,7 @@ impl Conflict {
 }
 
 /// What a replication does next.
-#[derive(Debug, Drop)]
+#[derive(Drop)]
 pub enum Planned {
     /// Nothing: the target has what the source has.
     UpToDate,

@@ -2,19 +2,20 @@
 #![tactic(auto)]
 
 ghost use Rattle.std.specs.Prelude.{◌≡◌, ◌≤◌, ◌<◌, [], IfOk, List, Option, false, true, length, slice_index_or, take};
-ghost use Rattle.zr_names.specs.Count.{Rose};
+ghost use Rattle.zr_base.specs.Count.{Rose};
 ghost use Rattle.zr_names.specs.declared.unit.Work.TheVariants as work;
 ghost use Rattle.zr_permit.specs.Result.{is_child_fault, ResultOf};
 ghost use Rattle.zr_permit.specs.Transcript.{doomed_in, listed};
 ghost use Rattle.zr_permit.specs.Turned.{HasTurned, is_short, Records, RecordsRun, RecordsUnit, Turns};
 ghost use Rattle.zr_prune.specs.Pruning.{IsListed, IsPruneSource, Pruning};
-ghost use Rattle.zr_world.specs.declared.command.Cmd.TheVariants as cmd;
-ghost use Rattle.zr_world.specs.declared.command.Entry.{Entry};
+ghost use Rattle.zr_command.specs.declared.command.Cmd.TheVariants as cmd;
+ghost use Rattle.zr_command.specs.declared.command.Entry.{Entry};
 
 use std::alloc::{AllocError, Global};
+use zr_command::{Answer, Cmd, Reply};
 use zr_names::{Outcome, Path, Same, SnapName, Work};
 use zr_permit::{Guarded, Told, doomed};
-use zr_world::{Answer, Cmd, Reply, Zfs};
+use zr_world::Zfs;
 
 /// The dataset that the unit prunes.
 fn own_path<Z: Zfs>(g: &Guarded<'_, Z>) -> Result<Path, AllocError>

@@ -6,20 +6,21 @@ use Rattle.std.specs.Cmp.Lexicographic.{bytes_decides}
 use Rattle.std.proofs.lemmas.Bool.Decides.{Decides-eqb}
 use Rattle.std.proofs.lemmas.List.{reverse-append}
 use Rattle.std.proofs.lemmas.List.Elements.{All-contains, Contains-append_cases, Contains-append_left, Contains-append_right, Contains-push_cases}
-use Rattle.zr_names.proofs.Lists.{AllPairs-head, AllPairs-tail}
+use Rattle.zr_base.proofs.Lists.{AllPairs-head, AllPairs-tail}
 use Rattle.zr_names.specs.declared.unit.Guid.{Guid}
-use Rattle.zr_world.specs.Lookup.{same_name}
-use Rattle.zr_world.specs.Pools.{IsVersionList}
-use Rattle.zr_world.specs.declared.command.Transfer.{Transfer}
-use Rattle.zr_world.specs.declared.version.VersionName.{VersionName}
-use Rattle.zr_world.specs.declared.version.VersionName.TheVariants.{Snap, Mark}
-use Rattle.zr_world.specs.declared.version.VersionRow.{VersionRow}
+use Rattle.zr_command.specs.Names.{same_name}
+use Rattle.zr_command.specs.Listings.{IsVersionList}
+use Rattle.zr_command.specs.declared.command.Transfer.{Transfer}
+use Rattle.zr_command.specs.declared.version.VersionName.{VersionName}
+use Rattle.zr_command.specs.declared.version.VersionName.TheVariants.{Snap, Mark}
+use Rattle.zr_command.specs.declared.version.VersionRow.{VersionRow}
 use Rattle.zr_world.proofs.Keeping.{found-passes}
-use Rattle.zr_plan.specs.Plan.{in_full, is_later, is_snap, is_snap_of, names_snap, newest, step_to, steps_of, steps_plan}
+use Rattle.zr_plan.specs.Plan.{in_full, is_later, step_to, steps_of, steps_plan}
+use Rattle.zr_command.specs.Kinds.{is_snap, is_snap_of, names_snap, newest}
 use Rattle.zr_plan.specs.declared.target.Planned.TheVariants.{Steps, UpToDate}
 use Rattle.zr_plan.specs.declared.target.Step.{Step}
 use Rattle.zr_known.specs.declared.known.Known.{Known}
-use Rattle.zr_known.specs.declared.known.Pair.{Pair}
+use Rattle.zr_jobs.specs.declared.pair.Pair.{Pair}
 use Rattle.zr_known.specs.declared.known.Presence.{Presence}
 use Rattle.zr_known.specs.declared.known.Presence.TheVariants.{Absent, There, Unlisted}
 use Rattle.zr_known.specs.Known.{arrival, is_among, is_row_of, presence_after, source_row}

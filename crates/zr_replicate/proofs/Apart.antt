@@ -2,9 +2,9 @@ use Rattle.std.proofs.Common.{◌≡◌, ◌≢◌, ◌∙◌, ◌<◌, ℕ, Lis
 use Rattle.zr_jobs.specs.declared.target.Destination.{Destination}
 use Rattle.zr_jobs.specs.declared.target.Destination.TheVariants.{Pull, Push}
 use Rattle.zr_jobs.specs.Targets.{joined, root_of, target_text}
-use Rattle.zr_permit.specs.declared.job.Job.{Job}
-use Rattle.zr_known.specs.declared.known.Pair.{Pair}
-use Rattle.zr_permit.specs.Jobs.{pair_in, pair_of}
+use Rattle.zr_jobs.specs.declared.job.Job.{Job}
+use Rattle.zr_jobs.specs.declared.pair.Pair.{Pair}
+use Rattle.zr_jobs.specs.Jobs.{pair_in, pair_of}
 
 longer : (path rest : List ℕ) → length rest < length (joined path rest)
 longer path rest = omega (arith, length-append path (47 ∷ rest))

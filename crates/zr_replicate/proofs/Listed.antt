@@ -1,32 +1,31 @@
-use Rattle.std.proofs.Common.{◌≡◌, ◌≢◌, ◌∙◌, ◌<◌, ◌+◌, ◌&&◌, ◌||◌, ℕ, Bool, true, false, true≢false, not, List, [], ◌∷◌, Option, Some, None, Contains, find, get_or, is_some, length, take, refl, ap, sym, subst, arith}
+use Rattle.std.proofs.Common.{◌≡◌, ◌≢◌, ◌∙◌, ◌<◌, ◌+◌, ◌&&◌, ◌||◌, ℕ, Bool, true, false, not, List, [], ◌∷◌, Option, Some, None, find, get_or, length, take, refl, ap, sym, subst}
 use Rattle.std.specs.List.{list_all, list_any}
 use Rattle.std.specs.Option.{option_map_or}
 use Rattle.std.specs.Cmp.Lexicographic.{bytes_decides}
 use Rattle.std.proofs.lemmas.List.Folds.{list_all_more, list_any-append}
 use Rattle.zr_names.specs.Marks.{tag_text}
 use Rattle.zr_names.specs.declared.marks.TagKind.TheVariants.{Last, Step}
-use Rattle.zr_world.specs.Reasons.{is_tagged}
-use Rattle.zr_world.specs.declared.command.Answer.TheVariants.{Done}
-use Rattle.zr_world.specs.declared.command.Cmd.{Cmd}
-use Rattle.zr_world.specs.declared.command.Cmd.TheVariants as cmd
-use Rattle.zr_world.specs.declared.command.Reply.{Reply}
-use Rattle.zr_world.specs.declared.command.Reply.TheVariants as reply
-use Rattle.zr_world.specs.declared.version.SetRow.{SetRow}
-use Rattle.zr_world.specs.declared.version.VersionName.{VersionName}
-use Rattle.zr_world.specs.declared.version.VersionName.TheVariants.{Snap, Mark}
-use Rattle.zr_world.specs.declared.version.VersionRow.{VersionRow}
+use Rattle.zr_command.specs.Names.{is_tagged, same_name, same_text}
+use Rattle.zr_command.specs.declared.command.Answer.TheVariants.{Done}
+use Rattle.zr_command.specs.declared.command.Cmd.{Cmd}
+use Rattle.zr_command.specs.declared.command.Cmd.TheVariants as cmd
+use Rattle.zr_command.specs.declared.command.Reply.{Reply}
+use Rattle.zr_command.specs.declared.command.Reply.TheVariants as reply
+use Rattle.zr_command.specs.declared.version.SetRow.{SetRow}
+use Rattle.zr_command.specs.declared.version.VersionName.{VersionName}
+use Rattle.zr_command.specs.declared.version.VersionName.TheVariants.{Snap, Mark}
+use Rattle.zr_command.specs.declared.version.VersionRow.{VersionRow}
 use Rattle.zr_world.specs.Answering.{Fits}
-use Rattle.zr_world.specs.Lookup.{same_name, same_text}
 use Rattle.zr_known.specs.declared.known.Known.{Known}
-use Rattle.zr_known.specs.declared.known.Pair.{Pair}
+use Rattle.zr_jobs.specs.declared.pair.Pair.{Pair}
 use Rattle.zr_known.specs.declared.known.Presence.TheVariants.{Absent, Unlisted}
 use Rattle.zr_known.specs.Known.{is_among, is_row_of, nothing_known, presence_by, rows_by_sets, set_among, told_by, told_holds, without_name}
 use Rattle.zr_known.specs.Replication.{ShowsSet}
-use Rattle.zr_known.specs.Straight.{has_known_holds, has_listed_holds, has_listed_target, version_holds_known}
+use Rattle.zr_known.specs.Straight.{has_known_holds, version_holds_known}
 use Rattle.zr_known.proofs.Knowing.{target-listed}
 use Rattle.zr_replicate.specs.declared.listing.Side.{Side}
 use Rattle.zr_replicate.specs.declared.listing.Side.TheVariants.{Source, Target}
-use Rattle.zr_replicate.specs.Listing.{asked_at, HasAskedAll, HasListedAll, HasListedSets, HasListedSource, HasListedTarget, IsShown, KnowsMoreHolds, listing_at, OnlyHolds, path_at, ShowsAt}
+use Rattle.zr_replicate.specs.Listing.{asked_at, HasListedSets, IsShown, KnowsMoreHolds, OnlyHolds, path_at, ShowsAt}
 use Rattle.zr_replicate.proofs.Lists.{all-weaker, any-filter, any-of, find-some}
 use Rattle.zr_replicate.proofs.Marking.{among-set, differ, equal}
 
@@ -147,12 +146,6 @@ shows-row side known row name shown is =
     ap (λ (o : Option (List VersionRow)). option_map_or (λ rows. list_any (is_row_of (Snap name)) rows) o false) shown.are_listed
     ∙ any-of (is_row_of (Snap name)) shown.rows row shown.among (subst (λ (v : VersionName). same_name (Snap name) v ≡ true) (sym is) (equal name))
 
-pub is-shown : (side : Side) (known : Known) (rows : List VersionRow) (row : VersionRow) → option_map_or (λ rows. rows) (listing_at side known) [] ≡ rows → Contains rows row → IsShown side known row
-is-shown side known rows row are among = by (listing_at side known) refl are where
-  by : (listing : Option (List VersionRow)) → listing_at side known ≡ listing → option_map_or (λ rows. rows) listing [] ≡ rows → IsShown side known row
-  by None is e = absurd (omega (arith, (subst (λ (xs : List VersionRow). Contains xs row) (sym e) among).1))
-  by (Some listed) is e = record { rows = rows; are_listed = is ∙ ap Some e; among = among }
-
 -- holds of more snapshots are known, step by step
 only-both : (side : Side) (first before now : Known) → OnlyHolds side first before → OnlyHolds side before now → OnlyHolds side first now
 only-both Source first before now one other =
@@ -165,15 +158,6 @@ more-both side first before now one other = record {
   only = only-both side first before now one.only other.only;
   more = λ name among. other.more name (one.more name among);
 }
-
-pub no-more : (side : Side) (known : Known) → KnowsMoreHolds side known known
-no-more Source known = record { only = refl; more = λ name among. among }
-no-more Target known = record { only = refl; more = λ name among. among }
-
--- a side's listing stays
-pub same-listing : (side : Side) (before now : Known) → OnlyHolds side before now → listing_at side now ≡ listing_at side before
-same-listing Source before now only = ap (λ (k : Known). k.source) only
-same-listing Target before now only = ap (λ (k : Known). k.listed) only
 
 known-more : (side : Side) (before now : Known) (row : VersionRow) → KnowsMoreHolds side before now → has_known_holds (asked_at side before) row ≡ true → has_known_holds (asked_at side now) row ≡ true
 known-more side before now row more e = by row.name e where
@@ -191,31 +175,3 @@ asked-more side before now rows place row inside more all is known =
     list_all_more (has_known_holds (asked_at side now)) rows place row inside
     ∙ ap (λ (b : Bool). b && has_known_holds (asked_at side now) (get_or rows place row)) (all-weaker (has_known_holds (asked_at side before)) (has_known_holds (asked_at side now)) (λ x e. known-more side before now x more e) (take place rows) all)
     ∙ ap (has_known_holds (asked_at side now)) (sym is) ∙ known
-
--- once both sides' holds were listed, all was
-holds-listed : (asked : List (List ℕ)) (listing : Option (List VersionRow)) → is_some listing ≡ true → list_all (has_known_holds asked) (option_map_or (λ rows. rows) listing []) ≡ true → has_listed_holds asked listing ≡ true
-holds-listed asked None some all = absurd (true≢false (sym some))
-holds-listed asked (Some rows) some all = all
-
-pub all-listed : (pair : Pair) (known : Known) → HasListedSets pair known → HasListedSource known → HasListedTarget pair known → HasAskedAll Source known → HasAskedAll Target known → HasListedAll pair known
-all-listed pair known sets source target asked asked' = record {
-  listed = rw (from-source, from-target) refl;
-  sets = sets;
-  source = source;
-} where
-  from-source : has_listed_holds known.source_holds known.source ≡ true
-  from-source = holds-listed known.source_holds known.source (ap is_some source.source_is) asked
-
-  shows : List SetRow → Bool
-  shows rows = list_any (λ (row : SetRow). same_text row.path pair.target) rows
-
-  by : (b : Bool) → shows sets.sets ≡ b → (not b || has_listed_holds known.target_holds known.listed) ≡ true
-  by false e = refl
-  by true e =
-      holds-listed known.target_holds known.listed
-      (target (ap (λ (o : Option (List SetRow)). option_map_or shows o false) sets.are_listed ∙ e)) asked'
-
-  from-target : has_listed_target pair known ≡ true
-  from-target =
-      ap (λ (o : Option (List SetRow)). option_map_or (λ rows. not (shows rows) || has_listed_holds known.target_holds known.listed) o false) sets.are_listed
-      ∙ by (shows sets.sets) refl

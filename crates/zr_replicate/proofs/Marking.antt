@@ -1,4 +1,4 @@
-use Rattle.std.proofs.Common.{◌≡◌, ◌≢◌, ◌⊎◌, ◌∙◌, ◌<◌, ◌&&◌, ◌||◌, ℕ, Bool, true, false, true≢false, not, List, [], ◌∷◌, ◌++◌, Option, Some, None, Contains, find, filter, length, slice_get, refl, ap, sym, subst, inr}
+use Rattle.std.proofs.Common.{◌≡◌, ◌≢◌, ◌∙◌, ◌<◌, ◌&&◌, ◌||◌, ℕ, Bool, true, false, true≢false, not, List, [], ◌∷◌, ◌++◌, Option, Some, None, Contains, find, filter, length, slice_get, refl, ap, sym, subst, inr}
 use Rattle.std.specs.List.{list_all, list_any}
 use Rattle.std.specs.Option.{option_or}
 use Rattle.std.specs.Cmp.Lexicographic.{bytes_decides, nat_list_eq_equiv}
@@ -9,19 +9,19 @@ use Rattle.zr_names.specs.declared.marks.MarkKind.{MarkKind}
 use Rattle.zr_names.specs.declared.marks.MarkKind.TheVariants.{Cursor, Tentative, OldCursor, Other}
 use Rattle.zr_names.specs.declared.unit.Guid.{Guid}
 use Rattle.zr_names.proofs.MarkKinds.{mark_kind-is}
-use Rattle.zr_world.specs.Lookup.{same_name, same_text}
-use Rattle.zr_world.specs.declared.command.Answer.TheVariants.{Done}
-use Rattle.zr_world.specs.declared.command.Cmd.TheVariants as cmd
-use Rattle.zr_world.specs.declared.command.Reply.TheVariants as reply
-use Rattle.zr_world.specs.declared.version.VersionName.{VersionName}
-use Rattle.zr_world.specs.declared.version.VersionName.TheVariants.{Snap, Mark}
-use Rattle.zr_world.specs.declared.version.VersionRow.{VersionRow}
+use Rattle.zr_command.specs.Names.{same_name, same_text}
+use Rattle.zr_command.specs.declared.command.Answer.TheVariants.{Done}
+use Rattle.zr_command.specs.declared.command.Cmd.TheVariants as cmd
+use Rattle.zr_command.specs.declared.command.Reply.TheVariants as reply
+use Rattle.zr_command.specs.declared.version.VersionName.{VersionName}
+use Rattle.zr_command.specs.declared.version.VersionName.TheVariants.{Snap, Mark}
+use Rattle.zr_command.specs.declared.version.VersionRow.{VersionRow}
 use Rattle.zr_world.proofs.Keeping.{found-passes}
-use Rattle.zr_plan.specs.Plan.{is_cursor, is_cursor_of, is_snap_of, is_tentative_of, kind_in, names_snap}
+use Rattle.zr_command.specs.Kinds.{is_cursor, is_cursor_of, kind_in, names_snap}
 use Rattle.zr_known.specs.declared.known.Known.{Known}
-use Rattle.zr_known.specs.declared.known.Pair.{Pair}
+use Rattle.zr_jobs.specs.declared.pair.Pair.{Pair}
 use Rattle.zr_known.specs.Known.{is_among, is_own_kind, is_row_of, set_among, told_by, without_name}
-use Rattle.zr_known.specs.Replication.{MayDestroyMark, MayMark, MayReleaseLast, MayReleaseStep}
+use Rattle.zr_known.specs.Replication.{MayDestroyMark, MayMark, MayReleaseLast}
 use Rattle.zr_replicate.specs.declared.settling.Newest.{Newest}
 use Rattle.zr_replicate.specs.Settling.{first_other, HasCursor, is_any_cursor, is_bookmark, IsAlone, IsOtherMark, IsOtherName, IsSafe, MaySettle}
 use Rattle.zr_replicate.specs.Working.{IsMarked}
@@ -90,19 +90,6 @@ marked-marks : (name : List ℕ) (marks : List VersionRow) (row : VersionRow) �
 marked-marks name marks row all =
     list_all-append is_bookmark marks (record row { name = Mark name; refs = 0 } ∷ []) ∙ ap (λ (b : Bool). b && true) all
 
--- the newest snapshot's cursor may be made, where no mark has its name
-pub may-mark : (pair : Pair) (known : Known) (newest : Newest) (version : VersionName) (name : List ℕ) → MaySettle pair known newest version → name ≡ cursor_text newest.guid.0 pair.job → list_any (is_row_of (Mark name)) known.marks ≡ false → MayMark pair known version name
-may-mark pair known newest version name may is none =
-    subst (λ (n : List ℕ). list_any (is_row_of (Mark n)) known.marks ≡ false → MayMark pair known version n) (sym is) (λ new. record {
-      last = may.last;
-      is_newest = may.is_newest.is_newest;
-      named = ap (λ (g : Guid). cursor_text g.0 pair.job) (sym may.is_newest.of_guid);
-      row = may.makes.row;
-      found = may.makes.found;
-      of_guid = subst (λ (g : Guid). (is_snap_of g may.makes.row ≡ true) ⊎ (is_tentative_of pair.job g may.makes.row ≡ true)) (sym may.is_newest.of_guid) may.makes.of_guid;
-      new = new;
-    }) none
-
 -- the newest snapshot has its cursor, where a mark has that name
 pub has-cursor : (pair : Pair) (known : Known) (newest : Newest) (version : VersionName) (name : List ℕ) → mark_kind name pair.job ≡ Cursor newest.guid → MaySettle pair known newest version → list_any (is_row_of (Mark name)) known.marks ≡ true → HasCursor pair known newest
 has-cursor pair known newest version name kind may any = record {
@@ -127,11 +114,6 @@ made-cursor pair before now newest version name kind may marked =
       cursor = marked-there name pair.job newest.guid before.marks marked.row kind;
       bookmarks = marked-marks name before.marks marked.row may.bookmarks;
     })
-
--- of the marks alone a made bookmark changes some
-pub marked-only : (before now : Known) (version : VersionName) (name : List ℕ) → IsMarked version name before now → now ≡ record before { marks = now.marks }
-marked-only before now version name marked =
-    marked.known_is ∙ ap (λ (marks : List VersionRow). record before { marks = marks }) (sym (ap (λ (k : Known). k.marks) marked.known_is))
 
 -- a name among others once it was put there, and once another was taken out
 pub among-set : (name : List ℕ) (names : List (List ℕ)) → is_among (set_among true name names) name ≡ true
@@ -239,33 +221,6 @@ destroyed-safe pair before now newest name safe other is =
 pub fewer-marks : (name : List ℕ) (marks marks' : List VersionRow) → list_any (is_row_of (Mark name)) marks ≡ true → marks' ≡ filter (λ row. not (is_row_of (Mark name) row)) marks → length marks' < length marks
 fewer-marks name marks marks' any is =
     subst (λ (xs : List VersionRow). length xs < length marks) (sym is) (filter-fewer (is_row_of (Mark name)) marks any)
-
--- and of the step holds
-pub may-release_step : (pair : Pair) (known : Known) (newest : Newest) (name : List ℕ) → IsSafe pair known newest → is_among known.step_held name ≡ true → MayReleaseStep pair known name
-may-release_step pair known newest name safe held = record {
-  held = held;
-  clear = record {
-    no_partial = safe.no_partial;
-    settled = inr (safe.last, newest.name, safe.settled, λ e. none (cursor_text safe.last.guid.0 pair.job) e);
-  };
-} where
-  none : (text : List ℕ) → None ≡ Some text → ⊥
-  none text e = cc
-
-pub step-safe : (pair : Pair) (before now : Known) (newest : Newest) (names : List (List ℕ)) → IsSafe pair before newest → now ≡ record before { step_held = names } → IsSafe pair now newest
-step-safe pair before now newest names safe is =
-    subst (λ (known : Known). IsSafe pair known newest) (sym is) (record {
-      last = safe.last;
-      settled = record {
-        is_newest = safe.settled.is_newest;
-        named = safe.settled.named;
-        cursor = safe.settled.cursor;
-        held = safe.settled.held;
-      };
-      of_guid = safe.of_guid;
-      no_partial = safe.no_partial;
-      bookmarks = safe.bookmarks;
-    })
 
 -- the next to go, and that none is left
 pub other-name : (names : List (List ℕ)) (own name : List ℕ) → find (λ other. not (same_text other own)) names ≡ Some name → IsOtherName names own name

@@ -5,8 +5,9 @@ use Rattle.std.proofs.lemmas.List.{reverse-append}
 use Rattle.std.proofs.lemmas.List.Folds.{find-append, list_any-append}
 use Rattle.zr_names.specs.declared.policy.Initial.TheVariants.{MostRecent}
 use Rattle.zr_names.specs.declared.unit.Guid.{Guid}
-use Rattle.zr_world.specs.declared.version.VersionRow.{VersionRow}
-use Rattle.zr_plan.specs.Plan.{in_full, initial_plan, is_cursor_of, is_later, is_snap, newest, own_version, plan_after, plan_from, plan_of, steps_of, steps_plan}
+use Rattle.zr_command.specs.declared.version.VersionRow.{VersionRow}
+use Rattle.zr_plan.specs.Plan.{in_full, initial_plan, is_later, own_version, plan_after, plan_from, plan_of, steps_of, steps_plan}
+use Rattle.zr_command.specs.Kinds.{is_cursor_of, is_snap, newest}
 use Rattle.zr_plan.specs.declared.target.Conflict.TheVariants.{NoSenderSnapshots}
 use Rattle.zr_plan.specs.declared.target.Planned.TheVariants.{Conflict, Steps}
 

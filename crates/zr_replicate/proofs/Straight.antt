@@ -1,26 +1,24 @@
-use Rattle.std.proofs.Common.{arith, not, ◌≡◌, ◌∙◌, ◌&&◌, ◌||◌, ◌==◌, ℕ, Bool, true, false, true≢false, List, [], ◌∷◌, Option, Some, None, length, refl, ap, sym, subst, inl, inr}
+use Rattle.std.proofs.Common.{arith, not, ◌≡◌, ◌∙◌, ◌&&◌, ◌||◌, ◌==◌, ℕ, Bool, true, false, true≢false, List, [], ◌∷◌, Option, Some, None, length, refl, ap, sym, inl, inr}
 use Rattle.std.specs.List.{list_all}
 use Rattle.std.specs.Option.{option_map_or}
 use Rattle.std.proofs.lemmas.Bool.Decides.{Decides-eqb}
 use Rattle.zr_names.specs.declared.unit.Guid.{Guid}
-use Rattle.zr_world.specs.declared.version.VersionName.{VersionName}
-use Rattle.zr_world.specs.declared.version.VersionName.TheVariants.{Snap, Mark}
-use Rattle.zr_world.specs.declared.version.VersionRow.{VersionRow}
-use Rattle.zr_plan.specs.Plan.{is_cursor, is_cursor_of, kind_in, names_snap}
-use Rattle.zr_plan.specs.declared.target.Planned.TheVariants.{UpToDate}
+use Rattle.zr_command.specs.declared.version.VersionName.{VersionName}
+use Rattle.zr_command.specs.declared.version.VersionName.TheVariants.{Snap, Mark}
+use Rattle.zr_command.specs.declared.version.VersionRow.{VersionRow}
+use Rattle.zr_command.specs.Kinds.{is_cursor, is_cursor_of, kind_in, names_snap}
 use Rattle.zr_known.specs.declared.known.Known.{Known}
-use Rattle.zr_known.specs.declared.known.Pair.{Pair}
+use Rattle.zr_jobs.specs.declared.pair.Pair.{Pair}
 use Rattle.zr_known.specs.declared.known.Presence.{Presence}
 use Rattle.zr_known.specs.declared.known.Presence.TheVariants.{Absent, There, Unlisted}
 use Rattle.zr_known.specs.declared.known.Receiving.{Receiving}
 use Rattle.zr_known.specs.declared.known.Receiving.TheVariants.{Nothing, Unknown}
 use Rattle.zr_known.specs.Known.{is_among}
-use Rattle.zr_known.specs.Replication.{is_there, newest_known, plan_known}
-use Rattle.zr_known.specs.Straight.{has_known_holds, has_listed, has_listed_holds, has_listed_target, has_snapshot, is_absent, is_alone, is_at_rest, is_none_receiving, is_straight, is_untouched, IsFinished, rests_on}
-use Rattle.zr_replicate.specs.declared.settling.Newest.{Newest}
+use Rattle.zr_known.specs.Replication.{is_there, newest_known}
+use Rattle.zr_known.specs.Straight.{has_known_holds, has_listed, has_listed_holds, has_listed_target, has_snapshot, is_absent, is_alone, is_at_rest, is_none_receiving, is_straight, is_untouched, rests_on}
 use Rattle.zr_replicate.specs.Listing.{HasListedAll}
 use Rattle.zr_replicate.specs.Settling.{is_bookmark}
-use Rattle.zr_replicate.specs.Stepping.{HasSource, IsAtRest, IsReady, RestsOn, SameListings}
+use Rattle.zr_replicate.specs.Stepping.{HasSource, IsAtRest, IsReady}
 use Rattle.zr_replicate.proofs.Lists.{all-weaker}
 
 both : (a b : Bool) → (a && b) ≡ true → (a ≡ true) × (b ≡ true)
@@ -118,24 +116,3 @@ straight-ready pair known all straight = by (is_untouched known) refl parts.1 wh
   by false untouched e =
       let rest = both (is_there known.target) (is_at_rest pair known) e in
       inr (rests-of pair known source rest.0 (nothing-is known.receiving some.1) rest.1)
-
--- a pair at rest by its facts is at rest by the test
-rest-test : (pair : Pair) (known : Known) (newest : Newest) → RestsOn pair known newest → is_at_rest pair known ≡ true
-rest-test pair known n rests =
-    let last = rests.safe.last in
-    let marks = subst (λ (g : Guid). list_all (is_cursor_of pair.job g) known.marks ≡ true) (sym rests.safe.of_guid) rests.alone.marks in
-    ap (λ (o : Option VersionRow). option_map_or (λ last. rests_on pair known last last.name) o false) rests.safe.settled.is_newest
-    ∙ ap (rests_on pair known last) rests.safe.settled.named
-    ∙ rw (rests.safe.settled.cursor, rests.safe.settled.held, marks, rests.alone.last_held, rests.alone.step_held) refl
-
--- what was listed before a replication stays listed
-same-listed : (pair : Pair) (before now : Known) → SameListings before now → has_listed pair before ≡ true → has_listed pair now ≡ true
-same-listed pair before now same listed = rw (same.source, same.source_holds, same.sets, same.listed, same.target_holds) listed
-
--- once the target has what the source has, the replication has finished
-pub has-finished : (pair : Pair) (before now : Known) → HasListedAll pair before → SameListings before now → IsAtRest pair now → plan_known pair now ≡ Some UpToDate → IsFinished pair now
-has-finished pair before now all same rest up_to_date = record {
-  listed = same-listed pair before now same all.listed;
-  up_to_date = up_to_date;
-  at_rest = rest-test pair now rest.newest rest.rests;
-}

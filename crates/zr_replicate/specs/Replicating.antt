@@ -4,9 +4,9 @@ use Rattle.zr_names.specs.declared.outcome.Outcome.TheVariants as outcome
 use Rattle.zr_names.specs.declared.unit.Unit.{Unit}
 use Rattle.zr_names.specs.declared.unit.Work.{Work}
 use Rattle.zr_names.specs.declared.unit.Work.TheVariants as work
-use Rattle.zr_permit.specs.declared.job.JobSet.{JobSet}
-use Rattle.zr_known.specs.declared.known.Pair.{Pair}
-use Rattle.zr_permit.specs.Jobs.{job_at, pair_of}
+use Rattle.zr_jobs.specs.declared.job.JobSet.{JobSet}
+use Rattle.zr_jobs.specs.declared.pair.Pair.{Pair}
+use Rattle.zr_jobs.specs.Jobs.{job_at, pair_of}
 
 -- the work is to replicate a dataset
 abbrev pub IsReplicate : Work → Type 0

@@ -5,13 +5,13 @@ use Rattle.zr_names.specs.Marks.{mark_kind}
 use Rattle.zr_names.specs.declared.marks.MarkKind.{MarkKind}
 use Rattle.zr_names.specs.declared.marks.MarkKind.TheVariants as mark
 use Rattle.zr_names.specs.declared.unit.Guid.{Guid}
-use Rattle.zr_world.specs.Lookup.{same_text}
-use Rattle.zr_world.specs.declared.version.VersionName.{VersionName}
-use Rattle.zr_world.specs.declared.version.VersionName.TheVariants.{Snap, Mark}
-use Rattle.zr_world.specs.declared.version.VersionRow.{VersionRow}
-use Rattle.zr_plan.specs.Plan.{is_cursor, is_cursor_of, is_snap, kind_in}
+use Rattle.zr_command.specs.Names.{same_text}
+use Rattle.zr_command.specs.declared.version.VersionName.{VersionName}
+use Rattle.zr_command.specs.declared.version.VersionName.TheVariants.{Snap, Mark}
+use Rattle.zr_command.specs.declared.version.VersionRow.{VersionRow}
+use Rattle.zr_command.specs.Kinds.{is_cursor, is_cursor_of, is_snap, kind_in}
 use Rattle.zr_known.specs.declared.known.Known.{Known}
-use Rattle.zr_known.specs.declared.known.Pair.{Pair}
+use Rattle.zr_jobs.specs.declared.pair.Pair.{Pair}
 use Rattle.zr_known.specs.declared.known.Receiving.TheVariants.{Nothing}
 use Rattle.zr_known.specs.Known.{is_among, is_row_of}
 use Rattle.zr_known.specs.Deciding.{MakesCursor}

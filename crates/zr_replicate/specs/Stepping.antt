@@ -1,14 +1,14 @@
 use Rattle.std.specs.Prelude.{◌≡◌, ◌⊎◌, ℕ, List, [], Option, Some, Contains, is_some, length, true}
 use Rattle.std.specs.List.{list_all}
-use Rattle.zr_world.specs.declared.command.Transfer.{Transfer}
-use Rattle.zr_world.specs.declared.version.VersionName.TheVariants.{Snap}
-use Rattle.zr_world.specs.declared.version.VersionRow.{VersionRow}
-use Rattle.zr_world.specs.Pools.{IsVersionList}
-use Rattle.zr_plan.specs.Plan.{newest}
+use Rattle.zr_command.specs.declared.command.Transfer.{Transfer}
+use Rattle.zr_command.specs.declared.version.VersionName.TheVariants.{Snap}
+use Rattle.zr_command.specs.declared.version.VersionRow.{VersionRow}
+use Rattle.zr_command.specs.Listings.{IsVersionList}
+use Rattle.zr_command.specs.Kinds.{newest}
 use Rattle.zr_plan.specs.declared.target.Planned.{Planned}
 use Rattle.zr_plan.specs.declared.target.Planned.TheVariants.{Steps}
 use Rattle.zr_known.specs.declared.known.Known.{Known}
-use Rattle.zr_known.specs.declared.known.Pair.{Pair}
+use Rattle.zr_jobs.specs.declared.pair.Pair.{Pair}
 use Rattle.zr_known.specs.declared.known.Presence.TheVariants.{Absent}
 use Rattle.zr_known.specs.declared.known.Receiving.TheVariants.{Nothing}
 use Rattle.zr_known.specs.Replication.{is_there}

@@ -1,23 +1,23 @@
 use Rattle.std.specs.Prelude.{◌≡◌, ◌≤◌, ℕ, Bool, true, false, List, [], ◌∷◌, ◌++◌, Option, Some, None, All, Result, Ok, Err}
 use Rattle.std.specs.Option.{option_map_or}
-use Rattle.zr_names.specs.Count.{Rose}
+use Rattle.zr_base.specs.Count.{Rose}
 use Rattle.zr_names.specs.declared.outcome.Outcome.{Outcome}
 use Rattle.zr_names.specs.declared.unit.Unit.{Unit}
 use Rattle.zr_names.specs.declared.unit.Work.TheVariants as work
-use Rattle.zr_world.specs.declared.command.Answer.TheVariants.{Done}
-use Rattle.zr_world.specs.declared.command.Cmd.{Cmd}
-use Rattle.zr_world.specs.declared.command.Cmd.TheVariants as cmd
-use Rattle.zr_world.specs.declared.command.Entry.{Entry}
-use Rattle.zr_world.specs.declared.command.Reply.{Reply}
-use Rattle.zr_world.specs.declared.command.Transfer.{Transfer}
-use Rattle.zr_world.specs.declared.version.VersionName.{VersionName}
-use Rattle.zr_world.specs.declared.version.VersionName.TheVariants.{Mark}
-use Rattle.zr_world.specs.declared.version.VersionRow.{VersionRow}
+use Rattle.zr_command.specs.declared.command.Answer.TheVariants.{Done}
+use Rattle.zr_command.specs.declared.command.Cmd.{Cmd}
+use Rattle.zr_command.specs.declared.command.Cmd.TheVariants as cmd
+use Rattle.zr_command.specs.declared.command.Entry.{Entry}
+use Rattle.zr_command.specs.declared.command.Reply.{Reply}
+use Rattle.zr_command.specs.declared.command.Transfer.{Transfer}
+use Rattle.zr_command.specs.declared.version.VersionName.{VersionName}
+use Rattle.zr_command.specs.declared.version.VersionName.TheVariants.{Mark}
+use Rattle.zr_command.specs.declared.version.VersionRow.{VersionRow}
 use Rattle.zr_world.specs.Answering.{Fits}
-use Rattle.zr_permit.specs.declared.job.JobSet.{JobSet}
+use Rattle.zr_jobs.specs.declared.job.JobSet.{JobSet}
 use Rattle.zr_known.specs.declared.known.Known.{Known}
-use Rattle.zr_known.specs.declared.known.Pair.{Pair}
-use Rattle.zr_permit.specs.Jobs.{job_at, pair_of}
+use Rattle.zr_jobs.specs.declared.pair.Pair.{Pair}
+use Rattle.zr_jobs.specs.Jobs.{job_at, pair_of}
 use Rattle.zr_known.specs.declared.known.Receiving.TheVariants.{Nothing}
 use Rattle.zr_known.specs.Known.{arrival, known_of, presence_after, source_row, told_by}
 use Rattle.zr_permit.specs.Result.{is_child_fault, ResultOf}

@@ -2,12 +2,12 @@
 
 ghost use Rattle.std.specs.Prelude.{◌≡◌, IfOk};
 ghost use Rattle.zr_names.specs.declared.marks.TagKind.TheVariants.{Last, Step};
-ghost use Rattle.zr_world.specs.declared.command.Cmd.TheVariants as cmd;
+ghost use Rattle.zr_command.specs.declared.command.Cmd.TheVariants as cmd;
 
 use std::alloc::AllocError;
-use zr_known::Pair;
+use zr_command::{Cmd, VersionName};
+use zr_jobs::Pair;
 use zr_names::{MarkName, Path, Same, SnapName, TagKind};
-use zr_world::{Cmd, VersionName};
 
 pub(crate) fn versions(path: &Path) -> Result<Cmd, AllocError>
     ensures { IfOk result (λ command. command ≡ cmd.Versions path.now) }

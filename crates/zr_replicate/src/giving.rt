@@ -2,14 +2,16 @@ ghost use Rattle.std.specs.Prelude.{◌≡◌, ◌++◌, ◌∷◌, [], OnErr, O
 ghost use Rattle.zr_known.specs.Known.{told_by};
 ghost use Rattle.zr_known.specs.Replication.{MayGive};
 ghost use Rattle.zr_replicate.specs.Working.{AtWork, HasTold, is_change, Learnt, sight, Stage, Went};
-ghost use Rattle.zr_world.specs.declared.command.Answer.TheVariants.{Done};
-ghost use Rattle.zr_world.specs.declared.command.Reply.TheVariants as reply;
+ghost use Rattle.zr_command.specs.declared.command.Answer.TheVariants.{Done};
+ghost use Rattle.zr_command.specs.declared.command.Reply.TheVariants as reply;
 
 use std::alloc::Global;
-use zr_known::{Known, Pair};
+use zr_command::Cmd;
+use zr_jobs::Pair;
+use zr_known::Known;
 use zr_names::{NoMemory, Outcome};
 use zr_permit::{Guarded, Told};
-use zr_world::{Cmd, Zfs};
+use zr_world::Zfs;
 
 /// Keeps what the last turn told.
 fn learn<Z: Zfs>(

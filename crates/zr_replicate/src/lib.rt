@@ -2,8 +2,8 @@
 #![tactic(auto)]
 
 ghost use Rattle.std.specs.Prelude.{◌≡◌, ◌≢◌, ◌≤◌, [], IfOk, List, OnOk, Option, Some, false, true, count_by};
-ghost use Rattle.zr_names.specs.Count.{Rose};
-ghost use Rattle.zr_permit.specs.Jobs.{IsOfFile};
+ghost use Rattle.zr_base.specs.Count.{Rose};
+ghost use Rattle.zr_jobs.specs.Jobs.{IsOfFile};
 ghost use Rattle.zr_known.specs.Known.{nothing_known};
 ghost use Rattle.zr_known.specs.Replication.{plan_known};
 ghost use Rattle.zr_permit.specs.Result.{capped, is_child_fault, is_done_transfer, is_out_of_memory, ResultOf};
@@ -15,15 +15,17 @@ ghost use Rattle.zr_replicate.specs.Listing.{HasListedAll, OnlyLists};
 ghost use Rattle.zr_replicate.specs.Replicating.{either_of, finished_with, IsPairOf, IsReplicate};
 ghost use Rattle.zr_replicate.specs.Stepping.{IsAtRest, SameListings};
 ghost use Rattle.zr_replicate.specs.Working.{AtWork, HasEnded, sight, Stage, Went};
-ghost use Rattle.zr_world.specs.declared.command.Entry.{Entry};
+ghost use Rattle.zr_command.specs.declared.command.Entry.{Entry};
 
 use listing::list_everything;
 use std::alloc::Global;
 use stepping::bring_up_to_date;
-use zr_known::{Known, NOT_STRAIGHT, Pair};
+use zr_command::{Answer, Cmd};
+use zr_jobs::Pair;
+use zr_known::{Known, NOT_STRAIGHT};
 use zr_names::{NoMemory, Outcome, Work};
 use zr_permit::Guarded;
-use zr_world::{Answer, Cmd, Zfs};
+use zr_world::Zfs;
 
 mod commands;
 mod giving;

@@ -11,13 +11,15 @@ ghost use Rattle.zr_replicate.specs.Working.{AtWork, sight, Stage, Went};
 use crate::commands;
 use crate::giving::give;
 use std::alloc::Global;
-use zr_known::{Known, Pair};
+use zr_command::{Cmd, VersionName, VersionRow};
+use zr_jobs::Pair;
+use zr_known::Known;
 use zr_names::{Outcome, Path, SnapName, same_items};
 use zr_permit::Guarded;
-use zr_world::{Cmd, VersionName, VersionRow, Zfs};
+use zr_world::Zfs;
 
 /// One of the two datasets of a pair.
-#[derive(Clone, Copy, Debug, PartialEq, Eq)]
+#[derive(Clone, Copy, PartialEq, Eq)]
 pub(crate) enum Side {
     Source,
     Target,

@@ -5,22 +5,23 @@ ghost use Rattle.std.specs.List.{list_all};
 ghost use Rattle.std.specs.Option.{option_copied};
 ghost use Rattle.zr_names.specs.Marks.{cursor_text, mark_kind};
 ghost use Rattle.zr_names.specs.declared.marks.MarkKind.TheVariants.{Cursor};
-ghost use Rattle.zr_plan.specs.Plan.{is_cursor_of, kind_in};
+ghost use Rattle.zr_command.specs.Kinds.{is_cursor_of, kind_in};
 ghost use Rattle.zr_known.specs.Known.{is_among};
 ghost use Rattle.zr_replicate.specs.Settling.{first_other, HasCursor, is_any_cursor, is_bookmark, IsAlone, IsOtherMark, IsOtherName, IsSafe, MaySettle, OnlyMarks};
 ghost use Rattle.zr_replicate.specs.Working.{AtWork, sight, Stage, Went};
-ghost use Rattle.zr_world.specs.Lookup.{same_text};
+ghost use Rattle.zr_command.specs.Names.{same_text};
 
 use crate::stages::{destroy_mark, hold_last, make_cursor, release_last, release_step};
 use std::alloc::{AllocError, Global};
-use zr_known::{Known, Pair};
+use zr_command::{VersionName, VersionRow, is_cursor_of, kind_in};
+use zr_jobs::Pair;
+use zr_known::Known;
 use zr_names::{Guid, JobName, MarkKind, MarkName, NoMemory, Outcome, Same, SnapName, cursor_name};
 use zr_permit::Guarded;
-use zr_plan::{is_cursor_of, kind_in};
-use zr_world::{VersionName, VersionRow, Zfs};
+use zr_world::Zfs;
 
 /// The target's newest snapshot.
-#[derive(Debug, Drop)]
+#[derive(Drop)]
 pub(crate) struct Newest {
     pub(crate) name: SnapName,
     pub(crate) guid: Guid,

@@ -1,28 +1,22 @@
 //! One command each: what it wants, and what is known after it.
 
 ghost use Rattle.std.specs.Prelude.{◌≡◌, ◌++◌, ◌∷◌, [], OnOk, filter, not, true};
-ghost use Rattle.zr_plan.specs.Plan.{kind_in};
+ghost use Rattle.zr_command.specs.Kinds.{kind_in};
 ghost use Rattle.zr_known.specs.Known.{arrival, is_own_kind, is_row_of, presence_after, set_among, without_name};
-ghost use Rattle.zr_known.specs.Replication.{
-  MayDestroyMark,
-  MayHoldLast,
-  MayHoldStep,
-  MayMark,
-  MayReleaseLast,
-  MayReleaseStep,
-  MayTransfer,
-};
+ghost use Rattle.zr_known.specs.Replication.{MayDestroyMark, MayHoldLast, MayHoldStep, MayMark, MayReleaseLast, MayReleaseStep, MayTransfer};
 ghost use Rattle.zr_known.specs.declared.known.Receiving.TheVariants.{Nothing};
 ghost use Rattle.zr_replicate.specs.Working.{AtWork, HasArrived, IsMarked, sight, Stage, Went};
-ghost use Rattle.zr_world.specs.declared.version.VersionName.TheVariants.{Mark};
+ghost use Rattle.zr_command.specs.declared.version.VersionName.TheVariants.{Mark};
 
 use crate::commands;
 use crate::giving::change;
 use std::alloc::Global;
-use zr_known::{Known, Pair};
+use zr_command::{Cmd, Transfer, VersionName};
+use zr_jobs::Pair;
+use zr_known::Known;
 use zr_names::{MarkName, Outcome, SnapName};
 use zr_permit::Guarded;
-use zr_world::{Cmd, Transfer, VersionName, Zfs};
+use zr_world::Zfs;
 
 /// Puts the job's step hold on a source snapshot.
 pub(crate) fn hold_step<Z: Zfs>(

@@ -5,15 +5,17 @@ ghost use Rattle.zr_known.specs.Replication.{next_transfer, plan_known};
 ghost use Rattle.zr_plan.specs.declared.target.Planned.TheVariants.{UpToDate};
 ghost use Rattle.zr_replicate.specs.Stepping.{IsAtRest, IsReady, IsUntouched, newest_by, SameListings, step_count};
 ghost use Rattle.zr_replicate.specs.Working.{AtWork, sight, Stage, Went};
-ghost use Rattle.zr_world.specs.declared.version.VersionName.TheVariants.{Snap};
+ghost use Rattle.zr_command.specs.declared.version.VersionName.TheVariants.{Snap};
 
 use crate::settling::{Newest, settle};
 use crate::stages::{hold_step, send};
 use std::alloc::{AllocError, Global};
-use zr_known::{Known, Pair, Presence};
+use zr_command::{Transfer, VersionName};
+use zr_jobs::Pair;
+use zr_known::{Known, Presence};
 use zr_names::{Outcome, Same};
 use zr_permit::Guarded;
-use zr_world::{Transfer, VersionName, Zfs};
+use zr_world::Zfs;
 
 /// What a transfer makes the newest snapshot of its target, and the version of it on the source.
 fn arriving(transfer: &Transfer) -> Result<(Newest, VersionName), AllocError>

@@ -37,11 +37,6 @@ module _ (rows : List RuleRow) (cursor : Option ℕ) (before after : List Bool) 
       let P : List GridRow → Type 0 = λ xs. AlsoMarks (is_of_newest count xs) xs before after in
       subst RuleMarks (sym is) (also-seen (seen pattern) (is_of_newest count (map (seen pattern) rows)) rows before after (subst P (same ∙ are) also))
 
-  pub grid-marked : (r : Rule) (spec : GridSpec) (pattern : Option (List ℕ)) (all rows_seen : List GridRow) → r ≡ rule.Grid spec pattern → rows_seen ≡ map (seen pattern) rows → all ≡ rows_seen → AlsoMarks (grid_kept spec.intervals all) all before after → RuleMarks r
-  grid-marked r spec pattern all rows_seen is are same also =
-      let P : List GridRow → Type 0 = λ xs. AlsoMarks (grid_kept spec.intervals xs) xs before after in
-      subst RuleMarks (sym is) (also-seen (seen pattern) (grid_kept spec.intervals (map (seen pattern) rows)) rows before after (subst P (same ∙ are) also))
-
   pub matching-marked : (r : Rule) (pattern : List ℕ) (negate : Bool) (all rows_seen : List GridRow) → r ≡ rule.Regex pattern negate → rows_seen ≡ map (seen (Some pattern)) rows → all ≡ rows_seen → AlsoMarks (λ i row. if negate then not row.matches else row.matches) all before after → RuleMarks r
   matching-marked r pattern negate all rows_seen is are same also =
       let test : ℕ → GridRow → Bool = λ i row. if negate then not row.matches else row.matches in

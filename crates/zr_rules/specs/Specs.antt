@@ -1,7 +1,7 @@
 -- Rules as a job file spells them, and why they were not compiled.
 use Rattle.std.specs.Prelude.{⊤, ◌≡◌, ℕ, true, List, take, slice_get, All, Option, Some, None, IfSome}
 use Rattle.std.specs.Option.{option_and_then}
-use Rattle.zr_names.specs.Count.{Rose}
+use Rattle.zr_base.specs.Count.{Rose}
 use Rattle.zr_grid.specs.Grid.{IsGrid}
 use Rattle.zr_rules.specs.declared.rule.RuleSpec.{RuleSpec}
 use Rattle.zr_rules.specs.declared.rule.RuleSpec.TheVariants.{Grid, LastN, NotReplicated, Regex}

@@ -13,7 +13,7 @@ use std::marker::Model;
 use zr_grid::{GridSpec, is_grid};
 
 /// Why rules were not compiled.
-#[derive(Clone, Copy, Debug, PartialEq, Eq)]
+#[derive(Clone, Copy, PartialEq, Eq)]
 pub enum RuleFault {
     /// The pattern of the rule of this number, counted from 0, was refused.
     BadRegex(usize),

@@ -14,6 +14,3 @@ pub use compiling::{RuleFault, Rules, compile, have_grids};
 pub use keeping::kept;
 pub use patterns::{BuildFault, Patterns, RegexPatterns};
 pub use rule::{PatternText, RuleRow, RuleSpec};
-
-#[cfg(test)]
-mod tests;

@@ -1,7 +1,7 @@
 //! What builds patterns, with a count of those that it refused.
 
 ghost use Rattle.std.specs.Prelude.{◌≡◌, ◌≢◌, ◌≤◌, ℕ, List, Option, Some, IfOk};
-ghost use Rattle.zr_names.specs.Count.{Rose};
+ghost use Rattle.zr_base.specs.Count.{Rose};
 ghost use Rattle.regex.specs.Patterns.{default_config};
 ghost use Rattle.regex.specs.Strings.{regex_source, regex_config, IsReadFromSource};
 
@@ -11,7 +11,7 @@ use std::alloc::{AllocError, Global};
 use std::marker::Model;
 
 /// Why a pattern was not built.
-#[derive(Clone, Copy, Debug, PartialEq, Eq)]
+#[derive(Clone, Copy, PartialEq, Eq)]
 pub enum BuildFault {
     /// It is no pattern, or one that is too big.
     Refused,

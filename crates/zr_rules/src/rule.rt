@@ -6,7 +6,7 @@ use zr_grid::GridSpec;
 use zr_names::SnapName;
 
 /// The text of a regular expression, in the syntax of `regex`. Contracts see its bytes.
-#[derive(Debug, Drop)]
+#[derive(Drop)]
 pub struct PatternText {
     text: String,
 }
@@ -52,7 +52,7 @@ impl PatternText {
 
 /// A rule that keeps snapshots of a dataset (zrepl's documentation, "Pruning Policies"). A rule without a pattern is
 /// about every snapshot.
-#[derive(Debug, Drop)]
+#[derive(Drop)]
 pub enum RuleSpec {
     /// Of the snapshots whose names match, those that the grid keeps.
     Grid {
@@ -76,7 +76,7 @@ pub enum RuleSpec {
 }
 
 /// A snapshot, as keep rules see it.
-#[derive(Debug, Drop)]
+#[derive(Drop)]
 pub struct RuleRow {
     pub name: SnapName,
     /// The transaction group in which it was made (createtxg of zfsprops(7)).

@@ -1,5 +1,5 @@
 -- The items of a field, one after the other.
-use Rattle.std.proofs.Common.{◌≡◌, ℕ, ◌+◌, ◌<◌, ◌≤◌, inl, inr, Bool, true, false, ◌||◌, ◌&&◌, nat_le, List, [], ◌∷◌, length, Option, Some, refl, sym, ap, subst, ◌∙◌, arith}
+use Rattle.std.proofs.Common.{◌≡◌, ℕ, ◌+◌, ◌<◌, ◌≤◌, inr, Bool, true, false, ◌||◌, ◌&&◌, nat_le, List, [], ◌∷◌, length, Option, Some, refl, sym, ap, subst, ◌∙◌, arith}
 use Rattle.std.specs.List.{list_any, AllByRecursion}
 use Rattle.std.proofs.lemmas.Bool.Decides.{nat_tests}
 use Rattle.zr_schedule.specs.declared.item.Limits.{Limits}
@@ -58,9 +58,6 @@ next_values limits text part parts item n e good =
 pub next_fault : (limits : Limits) (text part : List ℕ) (parts : List (List ℕ)) (item : Item) (place : ℕ) → parted is_comma text ≡ part ∷ parts → item_of limits (tokens part) ≡ Some item → IsPartFault limits parts place → IsFieldFault limits text (length part + 1 + place)
 next_fault limits text part parts item place e good fault =
     subst (λ (all : List (List ℕ)). IsPartFault limits all (length part + 1 + place)) (sym e) (inr ((item, good), (place, fault, refl)))
-
-pub this_fault : (limits : Limits) (text part : List ℕ) (parts : List (List ℕ)) (place : ℕ) → parted is_comma text ≡ part ∷ parts → IsItemFault limits part place → IsFieldFault limits text place
-this_fault limits text part parts place e fault = subst (λ (all : List (List ℕ)). IsPartFault limits all place) (sym e) (inl fault)
 
 pub fault_within : (limits : Limits) (part : List ℕ) (place : ℕ) → IsItemFault limits part place → place ≤ length part
 fault_within limits part place fault = let h = front_of_text fault.0 part in let e = fault.2 in omega (arith, h, e)

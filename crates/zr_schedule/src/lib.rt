@@ -13,6 +13,3 @@ pub use next::next_cron;
 pub use read::{CronFault, read_cron};
 pub use schedule::{When, due};
 pub use spec::CronSpec;
-
-#[cfg(test)]
-mod tests;

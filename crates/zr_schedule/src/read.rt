@@ -14,7 +14,7 @@ use crate::item::Limits;
 use crate::spec::{CronSpec, seven_as_zero};
 
 /// Why a text is no cron text.
-#[derive(Clone, Copy, Debug, PartialEq, Eq)]
+#[derive(Clone, Copy, PartialEq, Eq)]
 pub enum CronFault {
     /// The first bad field, counted from 1, and the byte in it, counted from 0, at which it goes wrong. Of a field that
     /// is missing, and of a sixth, it is byte 0.

@@ -8,7 +8,7 @@ use crate::spec::CronSpec;
 use zr_names::Moment;
 
 /// How often something is to be done.
-#[derive(Clone, Copy, Debug, PartialEq, Eq)]
+#[derive(Clone, Copy, PartialEq, Eq)]
 pub enum When {
     Never,
     /// So many milliseconds after the last time.

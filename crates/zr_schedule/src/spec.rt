@@ -4,7 +4,7 @@ ghost use Rattle.std.specs.Prelude.{◌≡◌, ◌<◌, ◌≤◌, ◌&&◌, ◌
 ghost use Rattle.zr_schedule.specs.Schedule.{has, joined_days, day_fields_match};
 
 /// The minutes at which something is to be done, in UTC: five sets of numbers, in each of which bit n stands for n.
-#[derive(Clone, Copy, Debug, PartialEq, Eq)]
+#[derive(Clone, Copy, PartialEq, Eq)]
 pub struct CronSpec {
     /// 0 to 59.
     pub minutes: u64,

@@ -6,14 +6,14 @@ use Rattle.zr_names.specs.declared.outcome.Outcome.TheVariants as outcome
 use Rattle.zr_names.specs.declared.unit.Unit.{Unit}
 use Rattle.zr_names.specs.declared.unit.Work.{Work}
 use Rattle.zr_names.specs.declared.unit.Work.TheVariants as work
-use Rattle.zr_world.specs.declared.command.Answer.TheVariants as answer
-use Rattle.zr_world.specs.declared.command.Cmd.TheVariants as cmd
-use Rattle.zr_world.specs.declared.command.Reply.TheVariants as reply
-use Rattle.zr_world.specs.declared.version.SetRow.{SetRow}
+use Rattle.zr_command.specs.declared.command.Answer.TheVariants as answer
+use Rattle.zr_command.specs.declared.command.Cmd.TheVariants as cmd
+use Rattle.zr_command.specs.declared.command.Reply.TheVariants as reply
+use Rattle.zr_command.specs.declared.version.SetRow.{SetRow}
 use Rattle.zr_permit.specs.declared.told.Told.TheVariants as told
-use Rattle.zr_permit.specs.declared.job.Job.{Job}
-use Rattle.zr_permit.specs.declared.job.JobSet.{JobSet}
-use Rattle.zr_permit.specs.Jobs.{fits_in, job_at, matched}
+use Rattle.zr_jobs.specs.declared.job.Job.{Job}
+use Rattle.zr_jobs.specs.declared.job.JobSet.{JobSet}
+use Rattle.zr_jobs.specs.Jobs.{fits_in, job_at, matched}
 use Rattle.zr_permit.specs.Result.{capped, ResultOf}
 use Rattle.zr_permit.specs.Transcript.{Allowed, GoesOn, Permits, Transcript, Turn}
 

@@ -2,12 +2,12 @@ use Rattle.std.specs.Prelude.{◌≡◌, List, [], ◌∷◌}
 use Rattle.zr_names.specs.declared.outcome.Outcome.{Outcome}
 use Rattle.zr_names.specs.declared.outcome.Outcome.TheVariants as outcome
 use Rattle.zr_names.specs.declared.unit.Unit.{Unit}
-use Rattle.zr_world.specs.declared.command.Answer.TheVariants as answer
-use Rattle.zr_world.specs.declared.command.Cmd.TheVariants as cmd
-use Rattle.zr_world.specs.declared.command.Reply.TheVariants as reply
-use Rattle.zr_world.specs.declared.version.SetRow.{SetRow}
-use Rattle.zr_permit.specs.declared.job.JobSet.{JobSet}
-use Rattle.zr_permit.specs.Jobs.{UnitsOf}
+use Rattle.zr_command.specs.declared.command.Answer.TheVariants as answer
+use Rattle.zr_command.specs.declared.command.Cmd.TheVariants as cmd
+use Rattle.zr_command.specs.declared.command.Reply.TheVariants as reply
+use Rattle.zr_command.specs.declared.version.SetRow.{SetRow}
+use Rattle.zr_jobs.specs.declared.job.JobSet.{JobSet}
+use Rattle.zr_jobs.specs.Jobs.{UnitsOf}
 use Rattle.zr_permit.specs.Transcript.{Transcript}
 
 -- the unit has listed the datasets and done nothing else

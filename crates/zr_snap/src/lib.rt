@@ -5,20 +5,22 @@ ghost use Rattle.std.specs.Prelude.{◌≡◌, ◌≤◌, [], ◌∷◌, ◌++�
 ghost use Rattle.std.specs.Ordering.{nat_cmp};
 ghost use Rattle.std.specs.List.Sorted.{IsSorted};
 ghost use Rattle.std.specs.Cmp.Lexicographic.{slice_cmp};
-ghost use Rattle.zr_names.specs.Count.{Rose};
+ghost use Rattle.zr_base.specs.Count.{Rose};
 ghost use Rattle.zr_names.specs.declared.outcome.Outcome.TheVariants as outcome;
 ghost use Rattle.zr_names.specs.declared.unit.Work.TheVariants as work;
-ghost use Rattle.zr_permit.specs.Jobs.{destination_of, fits_in, job_at, matched, prunings, replications, rules_of, units_at, UnitsOf};
+ghost use Rattle.zr_jobs.specs.Jobs.{destination_of, fits_in, job_at, matched, prunings, replications, rules_of, units_at, UnitsOf};
 ghost use Rattle.zr_permit.specs.Result.{capped, is_child_fault, is_out_of_memory, ResultOf};
 ghost use Rattle.zr_permit.specs.Turned.{HasTurned, is_short, Records, RecordsRun, RecordsUnit, Turns};
 ghost use Rattle.zr_snap.specs.Scanning.{Gives};
-ghost use Rattle.zr_world.specs.declared.command.Cmd.TheVariants as cmd;
-ghost use Rattle.zr_world.specs.declared.command.Entry.{Entry};
+ghost use Rattle.zr_command.specs.declared.command.Cmd.TheVariants as cmd;
+ghost use Rattle.zr_command.specs.declared.command.Entry.{Entry};
 
 use std::alloc::{AllocError, Global};
+use zr_command::{Answer, Cmd, Reply, SetRow};
+use zr_jobs::JobSet;
 use zr_names::{Moment, Outcome, Path, Rows, Same, Unit, Work};
-use zr_permit::{Guarded, JobSet, Told};
-use zr_world::{Answer, Cmd, Reply, SetRow, Zfs};
+use zr_permit::{Guarded, Told};
+use zr_world::Zfs;
 
 /// The listed paths that a job's filter matches and on which units can work.
 fn fitting_paths(

@@ -10,7 +10,7 @@ use jiff::tz::Offset;
 use zr_names::Moment;
 
 /// A day of the Gregorian calendar.
-#[derive(Clone, Copy, Debug, PartialEq, Eq)]
+#[derive(Clone, Copy, PartialEq, Eq)]
 pub struct Day {
     pub year: u16,
     /// From 1.
@@ -20,7 +20,7 @@ pub struct Day {
 }
 
 /// A time of day.
-#[derive(Clone, Copy, Debug, PartialEq, Eq)]
+#[derive(Clone, Copy, PartialEq, Eq)]
 pub struct Clock {
     pub hour: u16,
     pub minute: u16,
@@ -29,7 +29,7 @@ pub struct Clock {
 }
 
 /// A date and time in UTC.
-#[derive(Clone, Copy, Debug, PartialEq, Eq)]
+#[derive(Clone, Copy, PartialEq, Eq)]
 pub struct Civil {
     pub day: Day,
     pub clock: Clock,

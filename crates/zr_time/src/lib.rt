@@ -9,6 +9,3 @@ pub use text::{
     BadStamp, StampText, read_stamp, read_stamp_is_written_again, stamp, stamp_is_read_again,
     stamps_stand_as_moments,
 };
-
-#[cfg(test)]
-mod tests;

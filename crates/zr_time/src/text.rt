@@ -10,11 +10,11 @@ use crate::digits::{digit, number};
 use zr_names::Moment;
 
 /// A moment in UTC as `YYYYMMDD_HHMMSS_mmm`, in ASCII.
-#[derive(Clone, Copy, Debug, PartialEq, Eq, PartialOrd, Ord)]
+#[derive(Clone, Copy, PartialEq, Eq, PartialOrd, Ord)]
 pub struct StampText(pub [u8; 19]);
 
 /// The text is the stamp of no moment.
-#[derive(Clone, Copy, Debug, PartialEq, Eq)]
+#[derive(Clone, Copy, PartialEq, Eq)]
 pub struct BadStamp;
 
 /// The stamp of a moment.

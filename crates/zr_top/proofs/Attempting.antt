@@ -5,13 +5,14 @@ use Rattle.std.proofs.lemmas.Grind.{flat_map-append}
 use Rattle.zr_names.specs.declared.outcome.Outcome.{Outcome}
 use Rattle.zr_names.specs.declared.totals.Totals.{Totals}
 use Rattle.zr_names.specs.declared.unit.Unit.{Unit}
-use Rattle.zr_world.specs.declared.command.Entry.{Entry}
+use Rattle.zr_command.specs.declared.command.Entry.{Entry}
 use Rattle.zr_world.specs.Answering.{appended}
-use Rattle.zr_permit.specs.declared.job.JobSet.{JobSet}
-use Rattle.zr_permit.specs.Jobs.{IsOfFile}
+use Rattle.zr_jobs.specs.declared.job.JobSet.{JobSet}
+use Rattle.zr_jobs.specs.Jobs.{IsOfFile}
 use Rattle.zr_permit.specs.Runs.{Ran}
 use Rattle.zr_top.specs.Units.{IsDueUnit}
-use Rattle.zr_top.specs.Attempts.{Attempt, Attempted, entries, IsGood, no_totals, run_entries, tallied, tallied_all}
+use Rattle.zr_names.specs.Totals.{plus}
+use Rattle.zr_top.specs.Attempts.{AreNumbered, Attempt, Attempted, entries, IsGood, IsNumbered, no_totals, run_entries, tallied, tallied_all}
 use Rattle.zr_top.specs.Due.{Found, first_scans, joined, RanDue, RunUpTo, scan_of, ScanRan, ScansRan}
 
 abbrev unit_of : Attempt → Unit
@@ -47,6 +48,15 @@ totals-then : (start then' totals : Totals) (one other : List Attempt) → then'
 totals-then start then' totals one other first second =
     second ∙ ap (tallied_all other) first ∙ sym (tallied-append one other start)
 
+numbered-append : (one other : List Attempt) (t : Totals) → AreNumbered t one → AreNumbered (tallied_all one t) other → AreNumbered t (one ++ other)
+numbered-append [] other t first second = second
+numbered-append (a ∷ one) other t first second = (first.0, numbered-append one other (tallied a.ended t) first.1 second)
+
+-- the numbers of some attempts and then of others
+numbered-then : (start then' : Totals) (one other : List Attempt) → then' ≡ tallied_all one start → AreNumbered start one → AreNumbered then' other → AreNumbered start (one ++ other)
+numbered-then start then' one other is first second =
+    numbered-append one other start first (subst (λ (t : Totals). AreNumbered t other) is second)
+
 -- no unit was due
 pub attempted-none : (jobs : JobSet) (told : Option (List Entry)) (start : Totals) → Attempted jobs [] told told start start
 attempted-none jobs told start = record {
@@ -54,6 +64,7 @@ attempted-none jobs told start = record {
   units_are = refl;
   good = All-nil (IsGood jobs);
   recorded = sym (appended-nil told);
+  numbered = tt;
   totals_are = refl;
 }
 
@@ -64,29 +75,31 @@ attempted-then jobs due more before mid now start then' totals one other = recor
   units_are = units-append one.attempts other.attempts ∙ ap (λ us. us ++ map unit_of other.attempts) one.units_are ∙ ap (λ us. due ++ us) other.units_are;
   good = All-append (IsGood jobs) one.attempts other.attempts one.good other.good;
   recorded = recorded-then before mid now one.attempts other.attempts one.recorded other.recorded;
+  numbered = numbered-then start then' one.attempts other.attempts one.totals_are one.numbered other.numbered;
   totals_are = totals-then start then' totals one.attempts other.attempts one.totals_are other.totals_are;
 }
 
 one-recorded : (before now : Option (List Entry)) (attempt : Attempt) → now ≡ appended before (entries_in attempt) → now ≡ appended before (entries (attempt ∷ []))
 one-recorded before now attempt recorded = recorded ∙ ap (appended before) (sym (append-nil (entries_in attempt)))
 
-one-attempted : (jobs : JobSet) (before now : Option (List Entry)) (start : Totals) (attempt : Attempt) → IsGood jobs attempt → now ≡ appended before (entries_in attempt) → Attempted jobs (attempt.unit ∷ []) before now start (tallied attempt.ended start)
-one-attempted jobs before now start attempt good recorded = record {
+one-attempted : (jobs : JobSet) (before now : Option (List Entry)) (start : Totals) (attempt : Attempt) → IsGood jobs attempt → IsNumbered (plus start.due 1) attempt.begun → now ≡ appended before (entries_in attempt) → Attempted jobs (attempt.unit ∷ []) before now start (tallied attempt.ended start)
+one-attempted jobs before now start attempt good numbered recorded = record {
   attempts = attempt ∷ [];
   units_are = refl;
   good = All-cons (IsGood jobs) attempt [] good (All-nil (IsGood jobs));
   recorded = one-recorded before now attempt recorded;
+  numbered = (numbered, tt);
   totals_are = refl;
 }
 
 -- a unit that was run, or could not begin
-pub attempted-run : (jobs : JobSet) (unit : Unit) (run : ℕ) (before now : Option (List Entry)) (start : Totals) (ended : Outcome) → IsOfFile jobs unit → Ran jobs unit run before now ended → Attempted jobs (unit ∷ []) before now start (tallied ended start)
-attempted-run jobs unit run before now start ended of_file (inl ran) =
+pub attempted-run : (jobs : JobSet) (unit : Unit) (run : ℕ) (before now : Option (List Entry)) (start : Totals) (ended : Outcome) → IsOfFile jobs unit → run ≡ plus start.due 1 → Ran jobs unit run before now ended → Attempted jobs (unit ∷ []) before now start (tallied ended start)
+attempted-run jobs unit run before now start ended of_file next (inl ran) =
     let attempt : Attempt = record { unit = unit; begun = Some (run, ran.turns); ended = ended } in
-    one-attempted jobs before now start attempt (record { of_file = of_file; ends_well = (ran.legal, ran.result) }) ran.recorded
-attempted-run jobs unit run before now start ended of_file (inr none) =
+    one-attempted jobs before now start attempt (record { of_file = of_file; ends_well = (ran.legal, ran.result) }) next ran.recorded
+attempted-run jobs unit run before now start ended of_file next (inr none) =
     let attempt : Attempt = record { unit = unit; begun = None; ended = ended } in
-    one-attempted jobs before now start attempt (record { of_file = of_file; ends_well = none.0 }) (none.1 ∙ sym (appended-nil before))
+    one-attempted jobs before now start attempt (record { of_file = of_file; ends_well = none.0 }) tt (none.1 ∙ sym (appended-nil before))
 
 -- no unit of some was run yet
 pub run-none : (jobs : JobSet) (all : List Unit) (told : Option (List Entry)) (start : Totals) → RunUpTo jobs all all told told start start
@@ -97,13 +110,13 @@ run-none jobs all told start = record {
 }
 
 -- one unit more of some was run
-pub run-more : (jobs : JobSet) (all left rest : List Unit) (unit : Unit) (run : ℕ) (before mid now : Option (List Entry)) (start then' totals : Totals) (ended : Outcome) → RunUpTo jobs all left before mid start then' → left ≡ unit ∷ rest → IsOfFile jobs unit → Ran jobs unit run mid now ended → totals ≡ tallied ended then' → RunUpTo jobs all rest before now start totals
-run-more jobs all left rest unit run before mid now start then' totals ended up_to is of_file ran counted =
+pub run-more : (jobs : JobSet) (all left rest : List Unit) (unit : Unit) (run : ℕ) (before mid now : Option (List Entry)) (start then' totals : Totals) (ended : Outcome) → RunUpTo jobs all left before mid start then' → left ≡ unit ∷ rest → IsOfFile jobs unit → run ≡ plus then'.due 1 → Ran jobs unit run mid now ended → totals ≡ tallied ended then' → RunUpTo jobs all rest before now start totals
+run-more jobs all left rest unit run before mid now start then' totals ended up_to is of_file next ran counted =
     let at : Totals → Type 0 = λ t. Attempted jobs (up_to.run ++ unit ∷ []) before now start t in
     record {
       run = up_to.run ++ unit ∷ [];
       parts = append_assoc up_to.run (unit ∷ []) rest ∙ ap (λ us. up_to.run ++ us) (sym is) ∙ up_to.parts;
-      ran = subst at (sym counted) (attempted-then jobs up_to.run (unit ∷ []) before mid now start then' _ up_to.ran (attempted-run jobs unit run mid now then' ended of_file ran));
+      ran = subst at (sym counted) (attempted-then jobs up_to.run (unit ∷ []) before mid now start then' _ up_to.ran (attempted-run jobs unit run mid now then' ended of_file next ran));
     }
 
 -- the units of one scan more were run
@@ -153,8 +166,8 @@ zip-more jobs (a ∷ attempts) (us ∷ found) attempt units each finds =
     (each.0, zip-more jobs attempts found attempt units each.1 finds)
 
 -- the scan of one job more was run
-pub scanned-more : (jobs : JobSet) (moment count run : ℕ) (before mid now : Option (List Entry)) (start then' totals : Totals) (ended : Outcome) (found : List (List Unit)) (units : List Unit) → count < length jobs.jobs → ScansRan jobs moment count before mid start then' found → ScanRan jobs (scan_of moment count) run mid now ended units → totals ≡ tallied ended then' → ScansRan jobs moment (count + 1) before now start totals (found ++ units ∷ [])
-scanned-more jobs moment count run before mid now start then' totals ended found units inside scans scan counted =
+pub scanned-more : (jobs : JobSet) (moment count run : ℕ) (before mid now : Option (List Entry)) (start then' totals : Totals) (ended : Outcome) (found : List (List Unit)) (units : List Unit) → count < length jobs.jobs → ScansRan jobs moment count before mid start then' found → ScanRan jobs (scan_of moment count) run mid now ended units → run ≡ plus then'.due 1 → totals ≡ tallied ended then' → ScansRan jobs moment (count + 1) before now start totals (found ++ units ∷ [])
+scanned-more jobs moment count run before mid now start then' totals ended found units inside scans scan next counted =
     let attempt : Attempt = record { unit = scan_of moment count; begun = scan.begun; ended = ended } in
     let good : IsGood jobs attempt = record { of_file = scan-of-file jobs count moment inside; ends_well = scan.ends_well } in
     record {
@@ -162,6 +175,7 @@ scanned-more jobs moment count run before mid now start then' totals ended found
       units_are = units-append scans.attempts (attempt ∷ []) ∙ ap (λ us. us ++ attempt.unit ∷ []) scans.units_are ∙ sym (scans-more moment count);
       good = All-append (IsGood jobs) scans.attempts (attempt ∷ []) scans.good (All-cons (IsGood jobs) attempt [] good (All-nil (IsGood jobs)));
       recorded = recorded-then before mid now scans.attempts (attempt ∷ []) scans.recorded (one-recorded mid now attempt scan.recorded);
+      numbered = numbered-then start then' scans.attempts (attempt ∷ []) scans.totals_are scans.numbered (subst (λ (n : ℕ). IsNumbered n scan.begun) next scan.numbered, tt);
       totals_are = totals-then start then' totals scans.attempts (attempt ∷ []) scans.totals_are counted;
       found_are = zip-more jobs scans.attempts found attempt units scans.found_are scan.finds;
     }
@@ -181,5 +195,6 @@ ran-due jobs moment before mid now start then' totals found zeros scans others =
   };
   good = All-append (IsGood jobs) scans.attempts others.attempts scans.good others.good;
   recorded = recorded-then before mid now scans.attempts others.attempts scans.recorded others.recorded;
+  numbered = subst (λ (t : Totals). AreNumbered t (scans.attempts ++ others.attempts)) zeros (numbered-then start then' scans.attempts others.attempts scans.totals_are scans.numbered others.numbered);
   totals_are = totals-then start then' totals scans.attempts others.attempts scans.totals_are others.totals_are ∙ ap (tallied_all (scans.attempts ++ others.attempts)) zeros;
 }

@@ -6,3 +6,4 @@ pub mod Ending
 pub mod Promises
 pub mod Recording
 pub mod Rising
+pub mod Fronts

@@ -4,7 +4,7 @@ use Rattle.std.specs.List.{All}
 use Rattle.std.proofs.lemmas.List.Elements.{All-cons, All-head, All-nil, All-tail}
 use Rattle.zr_names.specs.declared.outcome.Outcome.{Outcome}
 use Rattle.zr_names.specs.declared.outcome.Outcome.TheVariants as outcome
-use Rattle.zr_permit.specs.declared.job.JobSet.{JobSet}
+use Rattle.zr_jobs.specs.declared.job.JobSet.{JobSet}
 use Rattle.zr_permit.specs.Result.{is_child_fault, is_out_of_memory}
 use Rattle.zr_permit.specs.Transcript.{Transcript}
 use Rattle.zr_permit.proofs.Honest.{legal-honest}
@@ -44,9 +44,9 @@ of-runs content moments before now wrote_before wrote given Holds ran holds = re
 }
 
 -- what was destroyed was destroyed honestly
-pub ran-honest : (content : Option (List ℕ)) (moments : Option (List ℕ)) (before now : List Told) (wrote_before wrote : Known) (given : Status) → RanFile content moments before now wrote_before wrote given → OfAnyRuns content before now AllHonest
-ran-honest content moments before now wrote_before wrote given (inl unrun) = inl unrun.same
-ran-honest content moments before now wrote_before wrote given (inr ran) =
+pub ran-honest : (file : List ℕ) (content : Option (List ℕ)) (moments : Option (List ℕ)) (before now : List Told) (wrote_before wrote : Known) (given : Status) → RanFile file content moments before now wrote_before wrote given → OfAnyRuns content before now AllHonest
+ran-honest file content moments before now wrote_before wrote given (inl unrun) = inl unrun.same
+ran-honest file content moments before now wrote_before wrote given (inr ran) =
     inr (of-runs content moments before now wrote_before wrote given AllHonest ran (all-honest ran.ran.jobs ran.ran.ran.attempts ran.ran.ran.good))
 
 -- the outcomes that give a status
@@ -93,16 +93,16 @@ printed-cause attempts given (inr (inr is)) caused = absurd (wrong (sym (ap is_c
   wrong : false ≡ true → ⊥
   wrong e = cc
 
-given-cause : (content : Option (List ℕ)) (moments : Option (List ℕ)) (before now : List Told) (wrote_before wrote : Known) (given : Status) → RanFile content moments before now wrote_before wrote given → is_caused given ≡ true → OfRuns content before now (SomeEnded (cause_of given))
-given-cause content moments before now wrote_before wrote given (inl unrun) caused = absurd (caused-ran given caused unrun.unrun)
-given-cause content moments before now wrote_before wrote given (inr ran) caused =
+given-cause : (file : List ℕ) (content : Option (List ℕ)) (moments : Option (List ℕ)) (before now : List Told) (wrote_before wrote : Known) (given : Status) → RanFile file content moments before now wrote_before wrote given → is_caused given ≡ true → OfRuns content before now (SomeEnded (cause_of given))
+given-cause file content moments before now wrote_before wrote given (inl unrun) caused = absurd (caused-ran given caused unrun.unrun)
+given-cause file content moments before now wrote_before wrote given (inr ran) caused =
     of-runs content moments before now wrote_before wrote given (SomeEnded (cause_of given)) ran (printed-cause ran.ran.ran.attempts given ran.ran.ran.status caused)
 
 -- the cause of a status that comes from runs
-pub ran-cause : (content : Option (List ℕ)) (moments : Option (List ℕ)) (before now : List Told) (wrote_before wrote : Known) (given wanted : Status) → RanFile content moments before now wrote_before wrote given → given ≡ wanted → is_caused wanted ≡ true → OfRuns content before now (SomeEnded (cause_of wanted))
-ran-cause content moments before now wrote_before wrote given wanted ran is caused =
+pub ran-cause : (file : List ℕ) (content : Option (List ℕ)) (moments : Option (List ℕ)) (before now : List Told) (wrote_before wrote : Known) (given wanted : Status) → RanFile file content moments before now wrote_before wrote given → given ≡ wanted → is_caused wanted ≡ true → OfRuns content before now (SomeEnded (cause_of wanted))
+ran-cause file content moments before now wrote_before wrote given wanted ran is caused =
     let Caused : Status → Type 0 = λ s. OfRuns content before now (SomeEnded (cause_of s)) in
-    subst Caused is (given-cause content moments before now wrote_before wrote given ran (ap is_caused is ∙ caused))
+    subst Caused is (given-cause file content moments before now wrote_before wrote given ran (ap is_caused is ∙ caused))
 
 neither : (x y : Bool) → (x || y) ≡ false → (x ≡ false) × (y ≡ false)
 neither true y e = cc
@@ -166,10 +166,10 @@ short-unrun status.ChildFault unrun sound = cc
 short-unrun status.Garbled unrun sound = cc
 
 -- completeness: where there was no fault, all that was due was done, or memory was wanting
-pub ran-complete : (content : Option (List ℕ)) (moments : Option (List ℕ)) (before now : List Told) (wrote_before wrote : Known) (given : Status) (code : ℕ) → code ≡ code_of given → RanFile content moments before now wrote_before wrote given → Sound given → (code ≡ 9) ⊎ OfRuns content before now (Completed moments code)
-ran-complete content moments before now wrote_before wrote given code coded (inl unrun) sound =
+pub ran-complete : (file : List ℕ) (content : Option (List ℕ)) (moments : Option (List ℕ)) (before now : List Told) (wrote_before wrote : Known) (given : Status) (code : ℕ) → code ≡ code_of given → RanFile file content moments before now wrote_before wrote given → Sound given → (code ≡ 9) ⊎ OfRuns content before now (Completed moments code)
+ran-complete file content moments before now wrote_before wrote given code coded (inl unrun) sound =
     inl (coded ∙ ap code_of (short-unrun given unrun.unrun sound))
-ran-complete content moments before now wrote_before wrote given code coded (inr ran) sound =
+ran-complete file content moments before now wrote_before wrote given code coded (inr ran) sound =
     elim (tells ran.ran.ran.attempts given ran.ran.ran.status sound) [
       | inl short ↦ inl (coded ∙ ap code_of short)
       | inr done ↦ inr (of-runs content moments before now wrote_before wrote given (Completed moments code) ran (completed done))
@@ -238,9 +238,9 @@ usage-code status.Unwritable e = cc
 usage-code status.OutOfMemory e = cc
 
 -- what a named file's run was, under its name in the words
-pub at-file : (content : List ℕ → Option (List ℕ)) (named file : List ℕ) (moments : Option (List ℕ)) (before now : List Told) (wrote_before wrote : Known) (given : Status) → named ≡ file → RanFile (content named) moments before now wrote_before wrote given → RanFile (content file) moments before now wrote_before wrote given
+pub at-file : (content : List ℕ → Option (List ℕ)) (named file : List ℕ) (moments : Option (List ℕ)) (before now : List Told) (wrote_before wrote : Known) (given : Status) → named ≡ file → RanFile named (content named) moments before now wrote_before wrote given → RanFile file (content file) moments before now wrote_before wrote given
 at-file content named file moments before now wrote_before wrote given same ran =
-    let at : List ℕ → Type 0 = λ name. RanFile (content name) moments before now wrote_before wrote given in
+    let at : List ℕ → Type 0 = λ name. RanFile name (content name) moments before now wrote_before wrote given in
     subst at same ran
 
 pub unwritable-code : (given : Status) → code_of given ≡ 8 → given ≡ status.Unwritable

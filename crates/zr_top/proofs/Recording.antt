@@ -1,44 +1,130 @@
-use Rattle.std.proofs.Common.{◌≡◌, ◌∙◌, ℕ, ◌⊎◌, true, false, List, [], ◌∷◌, ◌++◌, Option, Ok, inl, inr, refl, ap, lit<, subst, sym}
+use Rattle.std.proofs.Common.{◌≡◌, ◌≢◌, ◌∙◌, ℕ, ◌⊎◌, Bool, codes, true, false, List, [], ◌∷◌, ◌++◌, Option, Some, None, Ok, inl, inr, refl, ap, lit<, subst, sym}
 use Rattle.std.specs.Io.KnownBytes.{append_known}
 use Rattle.std.specs.List.{Contains}
 use Rattle.zr_names.specs.declared.totals.Totals.{Totals}
-use Rattle.zr_permit.specs.declared.job.JobSet.{JobSet}
+use Rattle.zr_jobs.specs.declared.job.JobSet.{JobSet}
 use Rattle.zr_top.specs.declared.status.Status.{Status}
 use Rattle.zr_top.specs.declared.status.Status.TheVariants as status
-use Rattle.zr_top.specs.Records.{FirstRan, IsFrontOf, Known, RanBytes, RanFile, RanJobs, Told, Unrun, Wrote}
-use Rattle.zr_top.specs.Status.{code_of, is_unrun, Printed, status_of}
+use Rattle.zr_permit.specs.Result.{is_child_fault, is_out_of_memory}
+use Rattle.zr_jobfile.specs.JobFile.{ReadsJobs}
+use Rattle.zr_jobfile.specs.declared.JobFault.{JobFault}
+use Rattle.zr_jobfile.specs.declared.JobFault.TheVariants as fault
+use Rattle.zr_exec.specs.Entries.{entries_of}
+use Rattle.zr_exec.specs.Running.{Running}
+use Rattle.zr_exec.proofs.Told.{same_program}
+use Rattle.zr_top.specs.Clock.{Ticks}
+use Rattle.zr_top.specs.Attempts.{Attempt, entries}
+use Rattle.zr_top.specs.Due.{RanDue}
+use Rattle.zr_top.specs.Records.{fault_line, FirstRan, IsFrontOf, Known, RanBytes, RanFile, RanJobs, RanNext, IsNext, Told, Unrun, Wrote, WroteFrontOf, zfs}
+use Rattle.zr_top.specs.Status.{code_of, is_conflict_or_too_long, is_garbled, is_unrun, Printed, some_ended, status_of, status_of_runs}
 use Rattle.zr_top.specs.Totals.{totals_text}
 use Rattle.zr_top.proofs.Books.{balanced}
-use Rattle.zr_top.proofs.Ending.{printed-of-runs}
+use Rattle.zr_top.proofs.Ending.{first_of, printed-of-runs, status-of-runs}
+use Rattle.zr_top.proofs.Fronts.{wrote-nothing}
+
+-- what was due was run with children of the program that was asked for, by the record that is read so
+pub of-program : (jobs : JobSet) (moment : Option ℕ) (program asked : List ℕ) (before now : Told) (totals : Totals) → RanDue jobs moment (entries_of asked before) (entries_of program now) totals → RanDue jobs moment (entries_of asked before) (entries_of asked now) totals
+of-program jobs moment program asked before now totals ran = record {
+  attempts = ran.attempts;
+  due = ran.due;
+  good = ran.good;
+  recorded = same_program program asked before now (entries ran.attempts) ran.recorded;
+  numbered = ran.numbered;
+  totals_are = ran.totals_are;
+}
+
+is-next : (moments : Option (List ℕ)) (tick : Option ℕ) (after : Option (List ℕ)) → Ticks moments tick after → IsNext moments tick
+is-next None tick after ticks = tt
+is-next (Some []) tick None ticks = absurd ticks
+is-next (Some []) tick (Some left) ticks = ticks.0
+is-next (Some (moment ∷ moments)) tick None ticks = absurd ticks
+is-next (Some (moment ∷ moments)) tick (Some left) ticks = ticks.0
+
+-- what was due was run with one runner of children of `zfs`, which was given back
+pub ran-next : (jobs : JobSet) (moments : Option (List ℕ)) (tick : Option ℕ) (after : Option (List ℕ)) (totals : Totals) (R : Type 0) (told : R → Told) (program : List ℕ) (child : R) (begun left : Running R) (given : R) → Ticks moments tick after → begun ≡ record { program = program; children = child } → program ≡ zfs → given ≡ left.children → RanDue jobs tick (entries_of begun.program (told begun.children)) (entries_of left.program (told left.children)) totals → RanNext jobs moments (told child) (told given) totals
+ran-next jobs moments tick after totals R told program child begun left given ticks begins is gives ran =
+    let Begun : Running R → Type 0 = λ b. RanDue jobs tick (entries_of b.program (told b.children)) (entries_of left.program (told left.children)) totals in
+    let Of : List ℕ → Type 0 = λ p. RanDue jobs tick (entries_of p (told child)) (entries_of p (told left.children)) totals in
+    let Given : R → Type 0 = λ r. RanDue jobs tick (entries_of zfs (told child)) (entries_of zfs (told r)) totals in
+    record {
+      moment = tick;
+      next = is-next moments tick after ticks;
+      ran = subst Given (sym gives) (subst Of is (of-program jobs tick left.program program (told child) (told left.children) totals (subst Begun begins ran)));
+    }
+
+memory-status : (attempts : List Attempt) → some_ended is_out_of_memory attempts ≡ true → status_of_runs attempts ≡ status.OutOfMemory
+memory-status attempts memory =
+    ap (λ (b : Bool). first_of b (some_ended is_garbled attempts) (some_ended is_child_fault attempts) (some_ended is_conflict_or_too_long attempts)) memory
+
+-- what became of the line of some totals: the status, and what was written
+pub record LinePrinted (totals : Totals) (wrote_before wrote : Known) (given : Status) : Type 0 where
+  pub memory_first : status_of totals ≡ status.OutOfMemory → given ≡ status.OutOfMemory
+  pub by_totals : Printed (status_of totals) given
+  pub printed : Wrote given wrote_before wrote (totals_text totals)
+  pub front : WroteFrontOf wrote_before wrote (totals_text totals)
 
 -- all that was due was attempted with the first runner, and the totals were printed
-pub ran-jobs : (jobs : JobSet) (moments : Option (List ℕ)) (before now : List Told) (totals : Totals) (wrote_before wrote : Known) (given : Status) (line : List ℕ) → FirstRan jobs moments before now (Ok totals) → line ≡ totals_text totals → Printed (status_of totals) given → Wrote given wrote_before wrote line → RanJobs jobs moments before now wrote_before wrote given
-ran-jobs jobs moments [] now totals wrote_before wrote given line ran is printed writes = absurd ran
-ran-jobs jobs moments (b ∷ others) [] totals wrote_before wrote given line ran is printed writes = absurd ran
-ran-jobs jobs moments (b ∷ others) (n ∷ left) totals wrote_before wrote given line ran is printed writes = record {
-  moment = ran.moment;
-  next = ran.next;
-  attempts = ran.ran.attempts;
-  due = ran.ran.due;
-  good = ran.ran.good;
-  recorded = ran.ran.recorded;
-  books = balanced ran.ran.attempts;
-  status = printed-of-runs ran.ran.attempts totals given ran.ran.totals_are printed;
-  printed = λ loud. writes loud ∙ ap (λ text. append_known wrote_before (text ++ 10 ∷ [])) (is ∙ ap totals_text ran.ran.totals_are);
-}
+pub ran-jobs : (jobs : JobSet) (moments : Option (List ℕ)) (before now : List Told) (totals : Totals) (wrote_before wrote : Known) (given : Status) → FirstRan jobs moments before now (Ok totals) → LinePrinted totals wrote_before wrote given → RanJobs jobs moments before now wrote_before wrote given
+ran-jobs jobs moments [] now totals wrote_before wrote given ran line = absurd ran
+ran-jobs jobs moments (b ∷ others) [] totals wrote_before wrote given ran line = absurd ran
+ran-jobs jobs moments (b ∷ others) (n ∷ left) totals wrote_before wrote given ran line =
+    let attempts = ran.ran.attempts in
+    let are = ran.ran.totals_are in
+    let Front : Totals → Type 0 = λ t. WroteFrontOf wrote_before wrote (totals_text t) in
+    record {
+      moment = ran.moment;
+      next = ran.next;
+      attempts = attempts;
+      due = ran.ran.due;
+      good = ran.ran.good;
+      numbered = ran.ran.numbered;
+      recorded = ran.ran.recorded;
+      books = balanced attempts;
+      status = printed-of-runs attempts totals given are line.by_totals;
+      printed = λ loud. line.printed loud ∙ ap (λ t. append_known wrote_before (totals_text t ++ 10 ∷ [])) are;
+      memory_first = λ memory. line.memory_first (ap status_of are ∙ status-of-runs attempts ∙ memory-status attempts memory);
+      front = subst Front are line.front;
+    }
 
 silent : true ≡ false → ⊥
 silent e = cc
 
--- the same, where there was no memory for the line
-pub ran-short : (jobs : JobSet) (moments : Option (List ℕ)) (before now : List Told) (totals : Totals) (wrote_before wrote : Known) → FirstRan jobs moments before now (Ok totals) → RanJobs jobs moments before now wrote_before wrote status.OutOfMemory
-ran-short jobs moments before now totals wrote_before wrote ran =
-    ran-jobs jobs moments before now totals wrote_before wrote status.OutOfMemory (totals_text totals) ran refl (inr (inr refl)) (λ loud. absurd (silent loud))
+-- the line of some totals was given to be printed
+pub line-printed : (totals : Totals) (wanted : Status) (wrote_before wrote : Known) (given : Status) (line : List ℕ) → wanted ≡ status_of totals → line ≡ totals_text totals → Printed wanted given → (wanted ≡ status.OutOfMemory → given ≡ status.OutOfMemory) → Wrote given wrote_before wrote line → WroteFrontOf wrote_before wrote line → LinePrinted totals wrote_before wrote given
+line-printed totals wanted wrote_before wrote given line of is printed first writes front =
+    let By : Status → Type 0 = λ s. Printed s given in
+    let Front : List ℕ → Type 0 = λ text. WroteFrontOf wrote_before wrote text in
+    record {
+      by_totals = subst By of printed;
+      memory_first = λ memory. first (of ∙ memory);
+      printed = λ loud. writes loud ∙ ap (λ text. append_known wrote_before (text ++ 10 ∷ [])) is;
+      front = subst Front is front;
+    }
+
+-- there was no memory for the line
+pub ran-short : (jobs : JobSet) (moments : Option (List ℕ)) (before now : List Told) (totals : Totals) (told : Known) → FirstRan jobs moments before now (Ok totals) → RanJobs jobs moments before now told told status.OutOfMemory
+ran-short jobs moments before now totals told ran =
+    ran-jobs jobs moments before now totals told told status.OutOfMemory ran (record {
+      by_totals = inr (inr refl);
+      memory_first = λ memory. refl;
+      printed = λ loud. absurd (silent loud);
+      front = wrote-nothing told (totals_text totals);
+    })
+
+-- nothing was run, and nothing was printed, for want of memory
+pub idle-short : (file : List ℕ) (told : List Told) (wrote : Known) → Unrun file told told wrote wrote status.OutOfMemory
+idle-short file told wrote = record {
+  same = refl;
+  unrun = refl;
+  line = codes "cannot read " ++ file;
+  of_file = inl refl;
+  front = wrote-nothing wrote (codes "cannot read " ++ file);
+}
 
 -- what was read of a file was run, or nothing was
-pub ran-file : (content : Option (List ℕ)) (read bytes : List ℕ) (moments : Option (List ℕ)) (before now : List Told) (wrote_before wrote : Known) (given : Status) → bytes ≡ read → IsFrontOf content read → Unrun before now given ⊎ RanBytes bytes moments before now wrote_before wrote given → RanFile content moments before now wrote_before wrote given
-ran-file content read bytes moments before now wrote_before wrote given is front (inl unrun) = inl unrun
-ran-file content read bytes moments before now wrote_before wrote given is front (inr ran) =
+pub ran-file : (file : List ℕ) (content : Option (List ℕ)) (read bytes : List ℕ) (moments : Option (List ℕ)) (before now : List Told) (wrote_before wrote : Known) (given : Status) → bytes ≡ read → IsFrontOf content read → Unrun file before now wrote_before wrote given ⊎ RanBytes bytes moments before now wrote_before wrote given → RanFile file content moments before now wrote_before wrote given
+ran-file file content read bytes moments before now wrote_before wrote given is front (inl unrun) = inl unrun
+ran-file file content read bytes moments before now wrote_before wrote given is front (inr ran) =
     inr (record { bytes = bytes; front = λ whole there. is ∙ front whole there; ran = ran })
 
 printed-unrun : (given : Status) → Printed status.Unreadable given → is_unrun given ≡ true
@@ -47,13 +133,67 @@ printed-unrun given (inr (inl is)) = ap is_unrun is
 printed-unrun given (inr (inr is)) = ap is_unrun is
 
 -- a file that could not be read was not run
-pub unread-unrun : (content : Option (List ℕ)) (moments : Option (List ℕ)) (told : List Told) (wrote_before wrote : Known) (given : Status) → Printed status.Unreadable given → RanFile content moments told told wrote_before wrote given
-unread-unrun content moments told wrote_before wrote given printed = inl (record { same = refl; unrun = printed-unrun given printed })
+pub unread-unrun : (file : List ℕ) (content : Option (List ℕ)) (moments : Option (List ℕ)) (told : List Told) (wrote_before wrote : Known) (given : Status) → Printed status.Unreadable given → WroteFrontOf wrote_before wrote (codes "cannot read " ++ file) → RanFile file content moments told told wrote_before wrote given
+unread-unrun file content moments told wrote_before wrote given printed front = inl (record {
+  same = refl;
+  unrun = printed-unrun given printed;
+  line = codes "cannot read " ++ file;
+  of_file = inl refl;
+  front = front;
+})
+
+-- and neither was one that is refused
+pub refused-unrun : (file : List ℕ) (told : List Told) (wrote_before wrote : Known) (given : Status) (why : JobFault) → is_unrun given ≡ true → why ≢ fault.NoMemory → WroteFrontOf wrote_before wrote (fault_line why) → Unrun file told told wrote_before wrote given
+refused-unrun file told wrote_before wrote given why unrun other front = record {
+  same = refl;
+  unrun = unrun;
+  line = fault_line why;
+  of_file = inr (why, other, refl);
+  front = front;
+}
+
+-- the same, of a record that stayed as it was
+pub idle-same : (file : List ℕ) (before now : List Told) (wrote : Known) → now ≡ before → Unrun file before now wrote wrote status.OutOfMemory
+idle-same file before now wrote same =
+    subst (λ (told : List Told). Unrun file before told wrote wrote status.OutOfMemory) (sym same) (idle-short file before wrote)
+
+no-toml : fault.NotToml ≢ fault.NoMemory
+no-toml e = cc
+
+no-jobs : fault.NotBuilt ≢ fault.NoMemory
+no-jobs e = cc
+
+too-long : fault.TooManyBytes ≢ fault.NoMemory
+too-long e = cc
+
+-- a job file gave no jobs: it is refused, or there was no memory
+pub no-jobs-unrun : (file : List ℕ) (told : List Told) (wrote_before wrote : Known) (given : Status) (why : JobFault) → is_unrun given ≡ true → (why ≢ fault.NoMemory → WroteFrontOf wrote_before wrote (fault_line why)) → (why ≡ fault.NoMemory → wrote ≡ wrote_before) → Unrun file told told wrote_before wrote given
+no-jobs-unrun file told wrote_before wrote given fault.NoMemory unrun loud silent =
+    let line = codes "cannot read " ++ file in
+    record {
+      same = refl;
+      unrun = unrun;
+      line = line;
+      of_file = inl refl;
+      front = subst (λ (w : Known). WroteFrontOf wrote_before w line) (sym (silent refl)) (wrote-nothing wrote_before line);
+    }
+no-jobs-unrun file told wrote_before wrote given fault.NotToml unrun loud silent =
+    refused-unrun file told wrote_before wrote given fault.NotToml unrun no-toml (loud no-toml)
+no-jobs-unrun file told wrote_before wrote given fault.NotBuilt unrun loud silent =
+    refused-unrun file told wrote_before wrote given fault.NotBuilt unrun no-jobs (loud no-jobs)
+no-jobs-unrun file told wrote_before wrote given fault.TooManyBytes unrun loud silent =
+    refused-unrun file told wrote_before wrote given fault.TooManyBytes unrun too-long (loud too-long)
+
+-- the jobs of some bytes were run, or nothing was
+pub bytes-ran : (file bytes : List ℕ) (jobs : JobSet) (moments : Option (List ℕ)) (before now : List Told) (wrote_before wrote : Known) (given : Status) → ReadsJobs bytes (Ok jobs) → Unrun file before now wrote_before wrote given ⊎ RanJobs jobs moments before now wrote_before wrote given → Unrun file before now wrote_before wrote given ⊎ RanBytes bytes moments before now wrote_before wrote given
+bytes-ran file bytes jobs moments before now wrote_before wrote given reads (inl unrun) = inl unrun
+bytes-ran file bytes jobs moments before now wrote_before wrote given reads (inr ran) =
+    inr (record { jobs = jobs; of_file = reads; ran = ran })
 
 -- the record of the named file's run, under its name in the words
-pub ran-named : (content : List ℕ → Option (List ℕ)) (named file : List ℕ) (moments : Option (List ℕ)) (before now : List Told) (wrote_before wrote : Known) (given : Status) (code : ℕ) → named ≡ file → code ≡ code_of given → RanFile (content named) moments before now wrote_before wrote given → (x : Status) × (code ≡ code_of x) × RanFile (content file) moments before now wrote_before wrote x
+pub ran-named : (content : List ℕ → Option (List ℕ)) (named file : List ℕ) (moments : Option (List ℕ)) (before now : List Told) (wrote_before wrote : Known) (given : Status) (code : ℕ) → named ≡ file → code ≡ code_of given → RanFile named (content named) moments before now wrote_before wrote given → (x : Status) × (code ≡ code_of x) × RanFile file (content file) moments before now wrote_before wrote x
 ran-named content named file moments before now wrote_before wrote given code same is ran =
-    let at : List ℕ → Type 0 = λ name. RanFile (content name) moments before now wrote_before wrote given in
+    let at : List ℕ → Type 0 = λ name. RanFile name (content name) moments before now wrote_before wrote given in
     (given, is, subst at same ran)
 
 -- the codes where the words are no command

@@ -1,7 +1,7 @@
 use Rattle.std.proofs.Common.{◌≡◌, ◌≢◌, ◌∙◌, ℕ, ◌≤◌, List, [], ◌∷◌, Ok, Err, Option, Some, None, arith, inl, inr, refl, subst, sym, length, lit<}
 use Rattle.std.specs.List.{Contains}
 use Rattle.toml.specs.Data.{Members}
-use Rattle.zr_permit.specs.declared.job.JobSet.{JobSet}
+use Rattle.zr_jobs.specs.declared.job.JobSet.{JobSet}
 use Rattle.zr_jobfile.specs.declared.JobFault.{JobFault}
 use Rattle.zr_jobfile.specs.declared.JobFault.TheVariants.{TooManyBytes, NotToml, NotBuilt, NoMemory}
 use Rattle.zr_jobfile.specs.JobFile.{IsJobFile, IsText, ReadsJobs}

@@ -6,16 +6,16 @@ use Rattle.zr_names.specs.declared.outcome.Outcome.TheVariants as outcome
 use Rattle.zr_names.specs.declared.unit.Unit.{Unit}
 use Rattle.zr_names.specs.declared.unit.Work.{Work}
 use Rattle.zr_names.specs.declared.unit.Work.TheVariants as work
-use Rattle.zr_world.specs.declared.version.SetRow.{SetRow}
-use Rattle.zr_permit.specs.declared.job.JobSet.{JobSet}
-use Rattle.zr_permit.specs.Jobs.{IsScanned, IsWorkOf, UnitsOf}
-use Rattle.zr_world.specs.declared.command.Entry.{Entry}
-use Rattle.zr_world.specs.declared.command.Entry.TheVariants.{Begin}
+use Rattle.zr_command.specs.declared.version.SetRow.{SetRow}
+use Rattle.zr_jobs.specs.declared.job.JobSet.{JobSet}
+use Rattle.zr_jobs.specs.Jobs.{IsScanned, IsWorkOf, UnitsOf}
+use Rattle.zr_command.specs.declared.command.Entry.{Entry}
+use Rattle.zr_command.specs.declared.command.Entry.TheVariants.{Begin}
 use Rattle.zr_world.specs.Answering.{appended}
 use Rattle.zr_permit.specs.Result.{is_out_of_memory, ResultOf}
 use Rattle.zr_permit.specs.Transcript.{Legal, Transcript}
 use Rattle.zr_permit.specs.Turned.{Records, RecordsUnit}
-use Rattle.zr_permit.proofs.Pairs.{units-all}
+use Rattle.zr_jobs.proofs.Pairs.{units-all}
 use Rattle.zr_permit.proofs.Running.{ran-with}
 use Rattle.zr_snap.specs.Scanning.{Gives}
 use Rattle.zr_top.specs.Due.{ScanRan}

@@ -1,14 +1,14 @@
-use Rattle.std.specs.Prelude.{◌≡◌, ℕ, ◌+◌, ◌-◌, ◌^◌, min, false, List, [], ◌∷◌, Option, Some, None, All, flat_map, fold, map}
+use Rattle.std.specs.Prelude.{⊤, ◌≡◌, ℕ, ◌+◌, ◌-◌, ◌^◌, min, false, List, [], ◌∷◌, Option, Some, None, All, flat_map, fold, map}
 use Rattle.zr_names.specs.declared.outcome.Outcome.{Outcome}
 use Rattle.zr_names.specs.declared.outcome.Outcome.TheVariants as outcome
 use Rattle.zr_names.specs.declared.totals.Totals.{Totals}
 use Rattle.zr_names.specs.declared.unit.Unit.{Unit}
 use Rattle.zr_names.specs.Totals.{counted, plus}
-use Rattle.zr_world.specs.declared.command.Entry.{Entry}
-use Rattle.zr_world.specs.declared.command.Entry.TheVariants.{Begin}
+use Rattle.zr_command.specs.declared.command.Entry.{Entry}
+use Rattle.zr_command.specs.declared.command.Entry.TheVariants.{Begin}
 use Rattle.zr_world.specs.Answering.{appended}
-use Rattle.zr_permit.specs.declared.job.JobSet.{JobSet}
-use Rattle.zr_permit.specs.Jobs.{IsOfFile}
+use Rattle.zr_jobs.specs.declared.job.JobSet.{JobSet}
+use Rattle.zr_jobs.specs.Jobs.{IsOfFile}
 use Rattle.zr_permit.specs.Result.{is_out_of_memory, ResultOf}
 use Rattle.zr_permit.specs.Transcript.{Legal, Transcript}
 use Rattle.zr_permit.specs.Turned.{calls}
@@ -47,6 +47,17 @@ tallied ended t = record (counted ended t) { due = plus t.due 1 }
 abbrev pub tallied_all : List Attempt → Totals → Totals
 tallied_all attempts totals = fold (λ (t : Totals) (a : Attempt). tallied a.ended t) totals attempts
 
+-- a run was begun under this number, or was not begun
+abbrev pub IsNumbered : ℕ → Option (ℕ × Transcript) → Type 0
+IsNumbered run None = ⊤
+IsNumbered run (Some begun) = begun.0 ≡ run
+
+-- each begun run has the number of its unit among those that were due, counted from 1; so many were due before, by these
+-- totals
+abbrev pub AreNumbered : Totals → List Attempt → Type 0
+AreNumbered t [] = ⊤
+AreNumbered t (a ∷ attempts) = IsNumbered (plus t.due 1) a.begun × AreNumbered (tallied a.ended t) attempts
+
 -- these units were attempted, each once and in this order: the runner's record has their begun runs more,
 -- each legal and with its result, and the totals count them
 pub record Attempted (jobs : JobSet) (due : List Unit) (before now : Option (List Entry)) (start totals : Totals) : Type 0 where
@@ -54,6 +65,7 @@ pub record Attempted (jobs : JobSet) (due : List Unit) (before now : Option (Lis
   pub units_are : map (λ (a : Attempt). a.unit) attempts ≡ due
   pub good : All (IsGood jobs) attempts
   pub recorded : now ≡ appended before (entries attempts)
+  pub numbered : AreNumbered start attempts
   pub totals_are : totals ≡ tallied_all attempts start
 
 -- the totals before the first unit

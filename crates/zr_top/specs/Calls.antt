@@ -1,7 +1,7 @@
 use Rattle.std.specs.Prelude.{◌≡◌, ◌⊎◌, ◌+◌, ◌++◌, ◌∷◌, [], ℕ, List, Option, Some, None, Ok, Contains, codes, take}
 use Rattle.std.specs.Io.KnownBytes.{append_known}
-use Rattle.zr_names.specs.Count.{Rose}
-use Rattle.zr_permit.specs.declared.job.JobSet.{JobSet}
+use Rattle.zr_base.specs.Count.{Rose}
+use Rattle.zr_jobs.specs.declared.job.JobSet.{JobSet}
 use Rattle.zr_permit.specs.Result.{is_child_fault}
 use Rattle.zr_jobfile.specs.declared.TheConstants.{FILE_LIMIT}
 use Rattle.zr_jobfile.specs.JobFile.{ReadsJobs}
@@ -9,7 +9,7 @@ use Rattle.zr_top.specs.declared.report.TheConstants.{USAGE}
 use Rattle.zr_top.specs.declared.status.Status.{Status}
 use Rattle.zr_top.specs.Attempts.{Attempt}
 use Rattle.zr_top.specs.Promises.{AllHonest, Completed, OfAnyRuns, OfRuns, SomeEnded}
-use Rattle.zr_top.specs.Records.{FirstRose, Known, RanFile, RefusalPrinted, Told}
+use Rattle.zr_top.specs.Records.{FirstRose, Known, RanFile, RefusalPrinted, Told, WroteFrontOf}
 use Rattle.zr_top.specs.Status.{code_of, is_conflict_or_too_long, is_garbled, IsRefused}
 use Rattle.zr_top.specs.Words.{file_of}
 
@@ -90,7 +90,7 @@ pub record Keeps (c : Call) : Type 0 where
   -- and the status are those of their outcomes
   pub ran :
       (file : List ℕ) → Names c file →
-      (given : Status) × (c.status ≡ code_of given) × RanFile (c.content file) c.moments c.before.records c.after.records c.before.written c.after.written given
+      (given : Status) × (c.status ≡ code_of given) × RanFile file (c.content file) c.moments c.before.records c.after.records c.before.written c.after.written given
   -- what was destroyed stood in a listing of its unit before, with no holds and kept by no rule
   pub honest :
       (file : List ℕ) → Names c file → OfAnyRuns (c.content file) c.before.records c.after.records AllHonest
@@ -103,7 +103,9 @@ pub record Keeps (c : Call) : Type 0 where
   pub complete :
       (file whole : List ℕ) (jobs : JobSet) → Finds c file whole → ReadsJobs (front whole) (Ok jobs) → IsSound c →
       (c.status ≡ 9) ⊎ OfFile c file (Completed c.moments c.status)
-  -- one line is all that is printed; that of the totals is part of `ran`
+  -- one line is all that is printed, and a front of it at most where the output or memory failed; that of a named file is
+  -- part of `ran`
+  pub usage_front : file_of c.words ≡ None → WroteFrontOf c.before.written c.after.written USAGE.now
   pub usage_printed : c.status ≡ 2 → c.after.written ≡ append_known c.before.written (USAGE.now ++ 10 ∷ [])
   pub refusal_printed :
       c.status ≡ 3 → (file whole : List ℕ) → Finds c file whole → RefusalPrinted (front whole) c.before.written c.after.written

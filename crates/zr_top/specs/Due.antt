@@ -1,16 +1,16 @@
-use Rattle.std.specs.Prelude.{⊤, ◌≡◌, ◌⊎◌, ℕ, List, [], ◌++◌, Option, Some, None, All, flat_map, length, map}
+use Rattle.std.specs.Prelude.{◌≡◌, ◌⊎◌, ℕ, List, [], ◌++◌, Option, Some, None, All, flat_map, length, map}
 use Rattle.std.specs.List.{AllZip, range_with_len}
-use Rattle.zr_names.specs.Count.{Rose}
+use Rattle.zr_base.specs.Count.{Rose}
 use Rattle.zr_names.specs.declared.outcome.Outcome.{Outcome}
 use Rattle.zr_names.specs.declared.totals.Totals.{Totals}
 use Rattle.zr_names.specs.declared.unit.Unit.{Unit}
 use Rattle.zr_names.specs.declared.unit.Work.TheVariants as work
-use Rattle.zr_world.specs.declared.command.Entry.{Entry}
+use Rattle.zr_command.specs.declared.command.Entry.{Entry}
 use Rattle.zr_world.specs.Answering.{appended}
-use Rattle.zr_permit.specs.declared.job.JobSet.{JobSet}
+use Rattle.zr_jobs.specs.declared.job.JobSet.{JobSet}
 use Rattle.zr_permit.specs.Transcript.{Transcript}
 use Rattle.zr_snap.specs.Scanning.{Gives}
-use Rattle.zr_top.specs.Attempts.{Attempt, Attempted, EndsWell, entries, IsGood, run_entries, tallied_all, totals_of}
+use Rattle.zr_top.specs.Attempts.{AreNumbered, Attempt, Attempted, EndsWell, entries, IsGood, IsNumbered, no_totals, run_entries, tallied_all, totals_of}
 
 -- the scan of a job at a moment
 abbrev pub scan_of : ℕ → ℕ → Unit
@@ -32,11 +32,6 @@ Finds jobs unit (Some begun) ended units = Gives jobs unit begun.1 ended units
 abbrev pub Found : JobSet → Attempt → List Unit → Type 0
 Found jobs attempt units = Finds jobs attempt.unit attempt.begun attempt.ended units
 
--- a run was begun under this number, or was not begun
-abbrev pub IsNumbered : ℕ → Option (ℕ × Transcript) → Type 0
-IsNumbered run None = ⊤
-IsNumbered run (Some begun) = begun.0 ≡ run
-
 -- a scan was run under this number, or could not begin for want of memory, and found these units
 pub record ScanRan (jobs : JobSet) (unit : Unit) (run : ℕ) (before now : Option (List Entry)) (ended : Outcome) (units : List Unit) : Type 0 where
   pub begun : Option (ℕ × Transcript)
@@ -51,6 +46,7 @@ pub record ScansRan (jobs : JobSet) (moment count : ℕ) (before now : Option (L
   pub units_are : map (λ (a : Attempt). a.unit) attempts ≡ first_scans moment count
   pub good : All (IsGood jobs) attempts
   pub recorded : now ≡ appended before (entries attempts)
+  pub numbered : AreNumbered start attempts
   pub totals_are : totals ≡ tallied_all attempts start
   pub found_are : AllZip (Found jobs) attempts found
 
@@ -86,6 +82,7 @@ pub record RanDue (jobs : JobSet) (moment : Option ℕ) (before now : Option (Li
   pub due : IsDue jobs moment attempts
   pub good : All (IsGood jobs) attempts
   pub recorded : now ≡ appended before (entries attempts)
+  pub numbered : AreNumbered no_totals attempts
   pub totals_are : totals ≡ totals_of attempts
 
 -- the totals have as many failed children as before, or the count of failed children rose

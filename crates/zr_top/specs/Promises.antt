@@ -1,7 +1,7 @@
 use Rattle.std.specs.Prelude.{⊤, ◌≡◌, ◌⊎◌, ℕ, Bool, true, false, List, Option, Some, None, All, Ok, if◌then◌else◌}
 use Rattle.zr_names.specs.declared.outcome.Outcome.{Outcome}
 use Rattle.zr_names.specs.declared.outcome.Outcome.TheVariants as outcome
-use Rattle.zr_permit.specs.declared.job.JobSet.{JobSet}
+use Rattle.zr_jobs.specs.declared.job.JobSet.{JobSet}
 use Rattle.zr_permit.specs.Honest.{IsHonest}
 use Rattle.zr_permit.specs.Transcript.{Transcript}
 use Rattle.zr_names.specs.declared.unit.Unit.{Unit}

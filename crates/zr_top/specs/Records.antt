@@ -1,22 +1,28 @@
-use Rattle.std.specs.Prelude.{⊤, ◌≡◌, ◌⊎◌, ◌+◌, ℕ, Bool, true, false, List, [], ◌∷◌, ◌++◌, Option, Some, None, Result, Ok, Err, All, codes, length, take}
+use Rattle.std.specs.Prelude.{⊤, ◌≡◌, ◌≢◌, ◌⊎◌, ◌+◌, ℕ, Bool, true, false, List, [], ◌∷◌, ◌++◌, Option, Some, None, Result, Ok, Err, All, codes, length, take}
 use Rattle.std.specs.Io.KnownBytes.{append_known}
-use Rattle.zr_names.specs.declared.outcome.NoMemory.{NoMemory}
+use Rattle.zr_base.specs.declared.memory.NoMemory.{NoMemory}
 use Rattle.zr_names.specs.declared.totals.Totals.{Totals}
-use Rattle.zr_names.specs.Count.{Rose}
+use Rattle.zr_base.specs.Count.{Rose}
 use Rattle.zr_world.specs.Answering.{appended}
 use Rattle.zr_exec.specs.declared.spawn.Line.{Line}
 use Rattle.zr_exec.specs.Entries.{entries_of}
-use Rattle.zr_permit.specs.declared.job.JobSet.{JobSet}
+use Rattle.zr_jobs.specs.declared.job.JobSet.{JobSet}
 use Rattle.zr_jobfile.specs.declared.TheConstants.{FILE_LIMIT}
 use Rattle.zr_jobfile.specs.declared.JobFault.{JobFault}
 use Rattle.zr_jobfile.specs.declared.JobFault.TheVariants as fault
 use Rattle.zr_jobfile.specs.JobFile.{ReadsJobs}
 use Rattle.zr_top.specs.declared.status.Status.{Status}
 use Rattle.zr_top.specs.declared.status.Status.TheVariants as status
-use Rattle.zr_top.specs.Attempts.{Attempt, entries, IsBalanced, IsGood, totals_of}
+use Rattle.zr_pipe.specs.Ends.{WroteFront}
+use Rattle.zr_permit.specs.Result.{is_out_of_memory}
+use Rattle.zr_top.specs.Attempts.{AreNumbered, Attempt, entries, IsBalanced, IsGood, no_totals, totals_of}
 use Rattle.zr_top.specs.Due.{IsDue, RanDue}
-use Rattle.zr_top.specs.Status.{is_unrun, Printed, status_of_runs}
+use Rattle.zr_top.specs.Status.{is_unrun, Printed, some_ended, status_of_runs}
 use Rattle.zr_top.specs.Totals.{totals_text}
+
+-- the program whose children do all commands
+abbrev pub zfs : List ℕ
+zfs = codes "zfs"
 
 -- what a runner tells of its begun runs and its calls
 abbrev pub Told : Type 0
@@ -36,7 +42,7 @@ IsNext (Some (next ∷ later)) moment = moment ≡ Some next
 pub record RanNext (jobs : JobSet) (moments : Option (List ℕ)) (before now : Told) (totals : Totals) : Type 0 where
   pub moment : Option ℕ
   pub next : IsNext moments moment
-  pub ran : RanDue jobs moment (entries_of before) (entries_of now) totals
+  pub ran : RanDue jobs moment (entries_of zfs before) (entries_of zfs now) totals
 
 -- `once` was called with a runner, or for want of memory nothing was begun
 abbrev pub RanOnce : JobSet → Option (List ℕ) → Told → Told → Result Totals NoMemory → Type 0
@@ -60,7 +66,7 @@ FirstRose before now = ⊥
 -- the first runner's record has the begun runs of these attempts more
 abbrev pub FirstHas : List Told → List Told → List Attempt → Type 0
 FirstHas (before ∷ others) (now ∷ left) attempts =
-    entries_of now ≡ appended (entries_of before) (entries attempts)
+    entries_of zfs now ≡ appended (entries_of zfs before) (entries attempts)
 FirstHas before now attempts = ⊥
 
 -- the output or memory failed, so that the line may not be printed
@@ -73,6 +79,10 @@ is_silent other = false
 abbrev pub Wrote : Status → Known → Known → List ℕ → Type 0
 Wrote given before now line = is_silent given ≡ false → now ≡ append_known before (line ++ 10 ∷ [])
 
+-- a front of this line is all that was written
+abbrev pub WroteFrontOf : Known → Known → List ℕ → Type 0
+WroteFrontOf before now line = WroteFront before now (line ++ 10 ∷ [])
+
 -- all that is due for these jobs was attempted with the first runner, and the totals were printed
 pub record RanJobs (jobs : JobSet) (moments : Option (List ℕ)) (before now : List Told) (wrote_before wrote : Known) (given : Status) : Type 0 where
   pub moment : Option ℕ
@@ -80,15 +90,34 @@ pub record RanJobs (jobs : JobSet) (moments : Option (List ℕ)) (before now : L
   pub attempts : List Attempt
   pub due : IsDue jobs moment attempts
   pub good : All (IsGood jobs) attempts
+  pub numbered : AreNumbered no_totals attempts
   pub recorded : FirstHas before now attempts
   pub books : IsBalanced (totals_of attempts) (length attempts)
+  -- want of memory comes before a failing output, and whatever failed, nothing but a front of the totals was written
+  pub memory_first : some_ended is_out_of_memory attempts ≡ true → given ≡ status.OutOfMemory
   pub status : Printed (status_of_runs attempts) given
   pub printed : Wrote given wrote_before wrote (totals_text (totals_of attempts))
+  pub front : WroteFrontOf wrote_before wrote (totals_text (totals_of attempts))
 
--- nothing was run
-pub record Unrun (before now : List Told) (given : Status) : Type 0 where
+-- the line of a job file's fault
+abbrev pub fault_line : JobFault → List ℕ
+fault_line fault.TooManyBytes = codes "job file: TooMany Bytes"
+fault_line fault.NotToml = codes "job file: NotToml"
+fault_line fault.NotBuilt = codes "job file: NotBuilt"
+fault_line fault.NoMemory = []
+
+-- what is printed where a job file is not run: that it can't be read, or why it is refused
+abbrev pub IsIdleLine : List ℕ → List ℕ → Type 0
+IsIdleLine file line =
+    (line ≡ codes "cannot read " ++ file) ⊎ ((why : JobFault) × (why ≢ fault.NoMemory) × (line ≡ fault_line why))
+
+-- nothing was run of this file, and a front of its line at most was written
+pub record Unrun (file : List ℕ) (before now : List Told) (wrote_before wrote : Known) (given : Status) : Type 0 where
   pub same : now ≡ before
   pub unrun : is_unrun given ≡ true
+  pub line : List ℕ
+  pub of_file : IsIdleLine file line
+  pub front : WroteFrontOf wrote_before wrote line
 
 -- the bytes that were read of a file are its first ones, where its content is told
 abbrev pub IsFrontOf : Option (List ℕ) → List ℕ → Type 0
@@ -107,19 +136,14 @@ pub record RanContent (content : Option (List ℕ)) (moments : Option (List ℕ)
   pub ran : RanBytes bytes moments before now wrote_before wrote given
 
 -- the jobs of the file of this content were run, or nothing was
-abbrev pub RanFile : Option (List ℕ) → Option (List ℕ) → List Told → List Told → Known → Known → Status → Type 0
-RanFile content moments before now wrote_before wrote given =
-    Unrun before now given ⊎ RanContent content moments before now wrote_before wrote given
+abbrev pub RanFile : List ℕ → Option (List ℕ) → Option (List ℕ) → List Told → List Told → Known → Known → Status → Type 0
+RanFile file content moments before now wrote_before wrote given =
+    Unrun file before now wrote_before wrote given
+    ⊎ RanContent content moments before now wrote_before wrote given
 
--- the line of a job file's fault
-abbrev pub fault_line : JobFault → List ℕ
-fault_line fault.TooManyBytes = codes "job file: TooMany Bytes"
-fault_line fault.NotToml = codes "job file: NotToml"
-fault_line fault.NotBuilt = codes "job file: NotBuilt"
-fault_line fault.NoMemory = []
-
--- the bytes of a job file are refused, and the line of their fault is all that was printed
+-- the bytes of a job file are refused, and the line of their fault, which is not empty, is all that was printed
 pub record RefusalPrinted (bytes : List ℕ) (wrote_before wrote : Known) : Type 0 where
-  pub fault : JobFault
-  pub by_fault : ReadsJobs bytes (Err fault)
-  pub printed : wrote ≡ append_known wrote_before (fault_line fault ++ 10 ∷ [])
+  pub why : JobFault
+  pub by_fault : ReadsJobs bytes (Err why)
+  pub not_memory : why ≢ fault.NoMemory
+  pub printed : wrote ≡ append_known wrote_before (fault_line why ++ 10 ∷ [])

@@ -77,6 +77,13 @@ is_of_run status.JobFile = false
 is_of_run status.Unreadable = false
 is_of_run other = true
 
+-- the status is one with which no runner was touched
+abbrev pub is_idle : Status → Bool
+is_idle status.Usage = true
+is_idle status.JobFile = true
+is_idle status.Unreadable = true
+is_idle other = false
+
 -- the status is one that comes where nothing was run
 abbrev pub is_unrun : Status → Bool
 is_unrun status.Clean = false

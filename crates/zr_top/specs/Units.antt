@@ -2,8 +2,8 @@ use Rattle.std.specs.Prelude.{⊤}
 use Rattle.zr_names.specs.declared.unit.Unit.{Unit}
 use Rattle.zr_names.specs.declared.unit.Work.{Work}
 use Rattle.zr_names.specs.declared.unit.Work.TheVariants as work
-use Rattle.zr_permit.specs.declared.job.JobSet.{JobSet}
-use Rattle.zr_permit.specs.Jobs.{IsOfFile}
+use Rattle.zr_jobs.specs.declared.job.JobSet.{JobSet}
+use Rattle.zr_jobs.specs.Jobs.{IsOfFile}
 
 -- the work that scans give: a dataset is replicated, or pruned at its source
 abbrev pub IsDueWork : Work → Type 0

@@ -1,6 +1,6 @@
 ghost use Rattle.std.specs.Prelude.{◌≡◌, ◌≢◌, ◌≤◌, ◌+◌, ℕ, List, Option, Some, IfOk, find, take};
 ghost use Rattle.std.specs.Option.{option_copied};
-ghost use Rattle.zr_names.specs.Count.{Rose};
+ghost use Rattle.zr_base.specs.Count.{Rose};
 ghost use Rattle.zr_top.specs.Stored.{is_stored_at};
 
 use std::alloc::{AllocError, Global};
@@ -8,7 +8,7 @@ use std::marker::Model;
 use zr_names::Bytes;
 
 /// Why a file gave no bytes.
-#[derive(Clone, Copy, Debug, PartialEq, Eq)]
+#[derive(Clone, Copy, PartialEq, Eq)]
 pub enum ReadFault {
     Failed,
     NoMemory,
@@ -38,7 +38,7 @@ pub trait Files {
 }
 
 /// A file of `MemFiles`.
-#[derive(Debug, Drop)]
+#[derive(Drop)]
 pub struct StoredFile {
     pub path: Bytes,
     pub bytes: Bytes,

@@ -9,12 +9,11 @@ pub use top::zrepl;
 
 pub mod clock;
 pub mod files;
+pub mod laws;
 pub mod once;
 pub mod printing;
 pub mod report;
 pub mod running;
 pub mod status;
-#[cfg(test)]
-mod tests;
 pub mod top;
 pub mod words;

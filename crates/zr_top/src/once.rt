@@ -1,40 +1,45 @@
 ghost use Rattle.std.specs.Prelude.{◌≡◌, ◌≤◌, ◌<◌, ◌^◌, All, IfErr, IfOk, List, length};
-ghost use Rattle.zr_names.specs.Count.{Rose};
+ghost use Rattle.zr_base.specs.Count.{Rose};
 ghost use Rattle.zr_top.specs.Attempts.{Attempted, no_totals};
 ghost use Rattle.zr_top.specs.Due.{FaultsRose, joined, RanDue, ScansRan};
 ghost use Rattle.zr_top.specs.Units.{IsDueUnit};
 
 use crate::running::{run_scan, run_unit};
 use std::alloc::{AllocError, Global};
+use zr_jobs::JobSet;
 use zr_names::{Moment, NoMemory, Outcome, Rows, Totals, Unit};
-use zr_permit::JobSet;
 use zr_world::Zfs;
 
-/// The totals so far, and the number of the next run.
-#[derive(Clone, Copy, Debug)]
+/// The totals so far.
+#[derive(Clone, Copy)]
 struct Tally {
-    run: u64,
     totals: Totals,
 }
 
 impl Tally {
     ghost use Rattle.std.specs.Prelude.{◌≡◌};
+    ghost use Rattle.zr_names.specs.Totals.{plus};
     ghost use Rattle.zr_top.specs.Attempts.{no_totals, tallied};
 
     fn new() -> Tally
         ensures { result.totals ≡ no_totals }
     {
         Tally {
-            run: 1,
             totals: Totals::default(),
         }
+    }
+
+    /// The number of the next run: that of its unit among those that are due, counted from 1.
+    fn next_run(&self) -> u64
+        ensures { result ≡ plus self.now.totals.due 1 }
+    {
+        self.totals.due.saturating_add(1)
     }
 
     /// Counts a unit that was due, and its outcome.
     fn count(&mut self, outcome: &Outcome)
         ensures { self.new.totals ≡ tallied outcome.now self.old.totals }
     {
-        self.run = self.run.saturating_add(1);
         self.totals.due = self.totals.due.saturating_add(1);
         self.totals.count(outcome);
     }
@@ -59,7 +64,7 @@ fn scan_all<Z: Zfs>(
 {
     let mut found = Vec::with_capacity(alloc, jobs.jobs.len())?;
     for job in 0..jobs.jobs.len() as u32 {
-        let (outcome, units) = run_scan(alloc, jobs, job, moment, tally.run, z);
+        let (outcome, units) = run_scan(alloc, jobs, job, moment, tally.next_run(), z);
         tally.count(&outcome);
         found.push_reserved(Rows::from_vec(units));
     }
@@ -75,7 +80,7 @@ fn run_units<Z: Zfs>(alloc: Global, jobs: &JobSet, units: Vec<Unit>, tally: &mut
     ensures rose { FaultsRose tally.old.totals tally.new.totals (Z.faults z.old) (Z.faults z.new) }
 {
     for unit in units {
-        let outcome = run_unit(alloc, jobs, unit, tally.run, z);
+        let outcome = run_unit(alloc, jobs, unit, tally.next_run(), z);
         tally.count(&outcome);
     }
 }

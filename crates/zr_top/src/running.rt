@@ -1,17 +1,18 @@
 ghost use Rattle.std.specs.Prelude.{◌≡◌, ◌≤◌, ◌<◌, ◌^◌, [], All, List, Option, false, true, length};
-ghost use Rattle.zr_names.specs.Count.{Rose};
+ghost use Rattle.zr_base.specs.Count.{Rose};
 ghost use Rattle.zr_names.specs.declared.unit.Work.TheVariants as work;
-ghost use Rattle.zr_permit.specs.Jobs.{IsOfFile};
+ghost use Rattle.zr_jobs.specs.Jobs.{IsOfFile};
 ghost use Rattle.zr_permit.specs.Result.{is_child_fault, ResultOf};
 ghost use Rattle.zr_permit.specs.Runs.{Ran};
 ghost use Rattle.zr_permit.specs.Turned.{Records, RecordsUnit};
 ghost use Rattle.zr_top.specs.Due.{scan_of, ScanRan};
 ghost use Rattle.zr_top.specs.Units.{IsDueUnit, IsDueWork};
-ghost use Rattle.zr_world.specs.declared.command.Entry.{Entry};
+ghost use Rattle.zr_command.specs.declared.command.Entry.{Entry};
 
 use std::alloc::Global;
+use zr_jobs::JobSet;
 use zr_names::{Moment, Outcome, Unit, Work};
-use zr_permit::{Guarded, JobSet, Unbegun};
+use zr_permit::{Guarded, Unbegun};
 use zr_prune::prune;
 use zr_replicate::replicate;
 use zr_snap::scan;

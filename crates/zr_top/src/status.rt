@@ -1,7 +1,7 @@
 use zr_names::Totals;
 
 /// How a call ends.
-#[derive(Clone, Copy, Debug, PartialEq, Eq)]
+#[derive(Clone, Copy, PartialEq, Eq)]
 pub enum Status {
     Clean,
     /// The words are no command.

@@ -4,9 +4,9 @@ ghost use Rattle.zr_jobfile.specs.declared.TheConstants.{FILE_LIMIT};
 ghost use Rattle.std.specs.Io.KnownBytes.{append_known};
 ghost use Rattle.zr_pipe.specs.Faults.{Rose};
 ghost use Rattle.zr_top.specs.Calls.{call, edges, Keeps};
-ghost use Rattle.zr_top.specs.Records.{FirstRan, FirstRose, RefusalPrinted, Wrote, RanBytes, RanFile, RanJobs, RanOnce, Unrun};
+ghost use Rattle.zr_top.specs.Records.{FirstRan, FirstRose, RefusalPrinted, Wrote, WroteFrontOf, RanBytes, RanFile, RanJobs, RanOnce, Unrun};
 ghost use Rattle.zr_top.specs.declared.status.Status.{Status};
-ghost use Rattle.zr_top.specs.Status.{is_of_run, IsRefused, Printed, RefusedOrUnread};
+ghost use Rattle.zr_top.specs.Status.{is_idle, is_of_run, IsRefused, Printed, RefusedOrUnread};
 ghost use Rattle.zr_top.specs.Words.{file_of};
 
 use crate::clock::Clock;
@@ -21,8 +21,8 @@ use std::sync::Wait;
 use std::thread::Threads;
 use zr_exec::{CliZfs, Spawn};
 use zr_jobfile::{FILE_LIMIT, read_jobs};
+use zr_jobs::JobSet;
 use zr_names::{NoMemory, Totals};
-use zr_permit::JobSet;
 use zr_pipe::Sink;
 
 /// Runs all that is due at the clock's next moment, with one runner, which is given back.
@@ -83,8 +83,8 @@ fn run_jobs<R: Spawn + Drop, C: Clock + Drop, S: Sink>(
     requires few { length jobs.now.jobs < 2 ^ 32 }
     ensures len { vec_len children.new ≡ vec_len children.old }
     ensures of_run { is_of_run result ≡ true }
-    ensures ran { Unrun (map (λ r. R.told r) children.old.items)
-        (map (λ r. R.told r) children.new.items) result
+    ensures ran { (file : List ℕ) → Unrun file (map (λ r. R.told r) children.old.items)
+        (map (λ r. R.told r) children.new.items) (S.written out.old) (S.written out.new) result
         ⊎ RanJobs jobs.now (C.moments clock) (map (λ r. R.told r) children.old.items)
         (map (λ r. R.told r) children.new.items) (S.written out.old) (S.written out.new) result }
     ensures failed { result ≡ Status.ChildFault →
@@ -117,8 +117,9 @@ fn run_file<R: Spawn + Drop, C: Clock + Drop, S: Sink>(
         RefusalPrinted bytes.now (S.written out.old) (S.written out.new) }
     ensures no_usage { result ≢ Status.Usage }
     ensures readable { result ≢ Status.Unreadable }
-    ensures ran { Unrun (map (λ r. R.told r) children.old.items)
-        (map (λ r. R.told r) children.new.items) result
+    ensures idle { result ≡ Status.JobFile → children.new.items ≡ children.old.items }
+    ensures ran { (file : List ℕ) → Unrun file (map (λ r. R.told r) children.old.items)
+        (map (λ r. R.told r) children.new.items) (S.written out.old) (S.written out.new) result
         ⊎ RanBytes bytes.now (C.moments clock) (map (λ r. R.told r) children.old.items)
         (map (λ r. R.told r) children.new.items) (S.written out.old) (S.written out.new) result }
     ensures failed { result ≡ Status.ChildFault →
@@ -136,6 +137,7 @@ fn run_file<R: Spawn + Drop, C: Clock + Drop, S: Sink>(
 fn unreadable<S: Sink>(alloc: Global, out: &mut S, file: &str) -> Status
     ensures printed { Printed Status.Unreadable result }
     ensures wrote { Wrote result (S.written out.old) (S.written out.new) (codes "cannot read " ++ file.now) }
+    ensures front { WroteFrontOf (S.written out.old) (S.written out.new) (codes "cannot read " ++ file.now) }
     ensures unwritable { result ≡ Status.Unwritable → Rose (S.faults out.old) (S.faults out.new) }
 {
     match format!(in alloc; "cannot read {file}") {
@@ -165,7 +167,8 @@ fn run_named<F: Files, R: Spawn + Drop, C: Clock + Drop, S: Sink>(
     ensures unread_printed { result ≡ Status.Unreadable →
         S.written out.new ≡ append_known (S.written out.old) (codes "cannot read " ++ file.now ++ 10 ∷ []) }
     ensures no_usage { result ≢ Status.Usage }
-    ensures ran { RanFile (F.content files.old file.now) (C.moments clock)
+    ensures idle { is_idle result ≡ true → children.new.items ≡ children.old.items }
+    ensures ran { RanFile file.now (F.content files.old file.now) (C.moments clock)
         (map (λ r. R.told r) children.old.items) (map (λ r. R.told r) children.new.items)
         (S.written out.old) (S.written out.new) result }
     ensures failed { result ≡ Status.ChildFault →
@@ -206,6 +209,7 @@ where
     ensures runners { vec_len children.new ≡ vec_len children.old }
     ensures others { drop 1 children.new.items ≡ drop 1 children.old.items }
     ensures unrun { file_of (map string_bytes words.now) ≡ None → children.new.items ≡ children.old.items }
+    ensures idle { (result ≡ 2) ⊎ (result ≡ 3) ⊎ (result ≡ 7) → children.new.items ≡ children.old.items }
     ensures kept { Keeps (call (map string_bytes words.now) (F.content files.old) (C.moments clock)
         (edges (F.faults files.old) (F.failed files.old) (map (λ r. R.told r) children.old.items)
         (map (λ r. R.faults r) children.old.items) (S.written out.old) (S.faults out.old))

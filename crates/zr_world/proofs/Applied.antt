@@ -4,10 +4,10 @@ use Rattle.zr_world.specs.declared.effects.ApplyFault.TheVariants.{Refused, NoMe
 use Rattle.zr_world.specs.declared.effects.Extent.{Extent}
 use Rattle.zr_world.specs.declared.effects.Extent.TheVariants as extent
 use Rattle.zr_world.specs.declared.effects.Refusal.{Refusal}
-use Rattle.zr_world.specs.declared.command.Answer.TheVariants.{Done}
-use Rattle.zr_world.specs.declared.command.Cmd.{Cmd}
-use Rattle.zr_world.specs.declared.command.Reply.{Reply}
-use Rattle.zr_world.specs.declared.command.Reply.TheVariants as reply
+use Rattle.zr_command.specs.declared.command.Answer.TheVariants.{Done}
+use Rattle.zr_command.specs.declared.command.Cmd.{Cmd}
+use Rattle.zr_command.specs.declared.command.Reply.{Reply}
+use Rattle.zr_command.specs.declared.command.Reply.TheVariants as reply
 use Rattle.zr_world.specs.declared.pools.Pools.{Pools}
 use Rattle.zr_world.specs.Answering.{Fits}
 use Rattle.zr_world.specs.Effect.{after_since, Applies, Effect, left_by, part_of, reply_to, step_at, unless_refused}

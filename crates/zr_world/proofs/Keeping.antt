@@ -2,7 +2,7 @@ use Rattle.std.proofs.Common.{◌≡◌, Bool, true, false, cond, find, List, []
 use Rattle.std.specs.Bool.{if◌then◌else◌}
 use Rattle.std.proofs.lemmas.List.Elements.{All-cons, All-head, All-nil, All-tail}
 use Rattle.std.proofs.lemmas.List.Kept.{AllPairs-cons}
-use Rattle.zr_names.proofs.Lists.{AllPairs-head, AllPairs-nil, AllPairs-tail}
+use Rattle.zr_base.proofs.Lists.{AllPairs-head, AllPairs-nil, AllPairs-tail}
 use Rattle.zr_world.specs.Effect.{first_changed, put_in}
 
 -- what each item has, each has after a change that keeps it of the item that is changed

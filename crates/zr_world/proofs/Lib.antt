@@ -3,7 +3,6 @@ pub mod Changing
 pub mod Keeping
 pub mod Moments
 pub mod Order
-pub mod Small
 pub mod Sound
 pub mod Tokens
 pub mod WellFormed

@@ -7,28 +7,31 @@ use Rattle.std.specs.declared.cmp.Ordering.TheVariants.{Less, Equal, Greater}
 use Rattle.std.specs.Option.{is_none, is_some, option_and_then, option_map_or}
 use Rattle.std.proofs.lemmas.List.Elements.{All-head, All-tail}
 use Rattle.std.proofs.lemmas.List.{get_or-reverse, length-reverse, reverse-reverse}
-use Rattle.zr_names.proofs.Lists.{AllPairs-map, AllPairs-nil, found_from_All}
+use Rattle.zr_base.proofs.Lists.{AllPairs-map, AllPairs-nil, found_from_All}
 use Rattle.zr_names.specs.Marks.{tag_text}
-use Rattle.zr_world.specs.declared.command.Answer.TheVariants.{Done}
-use Rattle.zr_world.specs.declared.command.Base.{Base}
-use Rattle.zr_world.specs.declared.command.Base.TheVariants as base
-use Rattle.zr_world.specs.declared.command.Cmd.{Cmd}
-use Rattle.zr_world.specs.declared.command.Cmd.TheVariants as cmd
-use Rattle.zr_world.specs.declared.command.Transfer.{Transfer}
+use Rattle.zr_command.specs.declared.command.Answer.TheVariants.{Done}
+use Rattle.zr_command.specs.declared.command.Base.{Base}
+use Rattle.zr_command.specs.declared.command.Base.TheVariants as base
+use Rattle.zr_command.specs.declared.command.Cmd.{Cmd}
+use Rattle.zr_command.specs.declared.command.Cmd.TheVariants as cmd
+use Rattle.zr_command.specs.declared.command.Transfer.{Transfer}
 use Rattle.zr_world.specs.declared.effects.Refusal.{Refusal}
 use Rattle.zr_world.specs.declared.effects.Refusal.TheVariants.{NoSuch, Exists, TagThere, NotNewest, HasPartial, Spent}
 use Rattle.zr_world.specs.declared.pools.Dataset.{Dataset}
 use Rattle.zr_world.specs.declared.pools.Pools.{Pools}
 use Rattle.zr_world.specs.declared.pools.Version.{Version}
-use Rattle.zr_world.specs.declared.version.VersionName.{VersionName}
-use Rattle.zr_world.specs.declared.version.VersionName.TheVariants.{Snap, Mark}
+use Rattle.zr_command.specs.declared.version.VersionName.{VersionName}
+use Rattle.zr_command.specs.declared.version.VersionName.TheVariants.{Snap, Mark}
 use Rattle.zr_names.specs.declared.unit.Guid.{Guid}
-use Rattle.zr_world.specs.declared.version.VersionRow.{VersionRow}
+use Rattle.zr_command.specs.declared.version.VersionRow.{VersionRow}
 use Rattle.zr_world.specs.Answering.{Fits}
 use Rattle.zr_world.specs.Effect.{after_since, bookmark_of, bookmarked, part_of, partial_of, put_in, received, reply_to, set_before, transferred, with_partial, with_set, with_target, with_version, without_tag}
-use Rattle.zr_world.specs.Lookup.{dataset_at, has_guid, has_name, is_at, is_snapshot, names_snapshot, newest, same_name, tags_at, version_at}
-use Rattle.zr_world.specs.Pools.{is_below, stands_before, IsSetList, IsVersionList, IsWellFormed, IsWellFormedSet, MarkIsFree}
-use Rattle.zr_world.specs.Reasons.{first_that_applies, full_reasons, increment_reasons, is_spent, is_tagged, refusal, reasons, source_reasons, target_reasons}
+use Rattle.zr_world.specs.Lookup.{dataset_at, has_guid, has_name, is_at, is_snapshot, newest, tags_at, version_at}
+use Rattle.zr_command.specs.Kinds.{names_snap}
+use Rattle.zr_command.specs.Names.{is_below, is_tagged, same_name}
+use Rattle.zr_command.specs.Listings.{stands_before, IsSetList, IsVersionList}
+use Rattle.zr_world.specs.Pools.{IsWellFormed, IsWellFormedSet, MarkIsFree}
+use Rattle.zr_world.specs.Reasons.{first_that_applies, full_reasons, increment_reasons, is_spent, refusal, reasons, source_reasons, target_reasons}
 use Rattle.zr_world.specs.Rows.{row_of_set, row_of_version}
 use Rattle.zr_world.proofs.Keeping.{found-none, found-passes}
 use Rattle.zr_world.proofs.WellFormed.{added-keeps, arrived-keeps, fewer-differ, later-keeps, more-differ, partial-keeps, removal-keeps, tags-keep, tags_at-differ, version_at-All, TagsDiffer}
@@ -41,10 +44,6 @@ none-first false why more e = (refl, e)
 nothing-there : {T : Type 0} (o : Option T) → is_some o ≡ false → o ≡ None
 nothing-there None e = refl
 nothing-there (Some x) e = cc
-
-something-there : {T : Type 0} (o : Option T) → not (is_some o) ≡ false → (o ≡ None → ⊥)
-something-there None e = λ none. cc
-something-there (Some x) e = λ none. cc
 
 hold-keeps : (pools : Pools) (path name tag : List ℕ) → is_tagged (tags_at pools path (Snap name)) tag ≡ false → IsWellFormed pools → TagsDiffer (tags_at pools path (Snap name) ++ tag ∷ [])
 hold-keeps pools path name tag other formed =
@@ -79,7 +78,7 @@ bumped pools path change next = choose (is_some (dataset_at pools path)) where
   choose false = refl
 
 -- a snapshot of a new name arrives in a new transaction group
-received-keeps : (pools : Pools) (target : List ℕ) (version : Version) → version_at pools target version.name ≡ None → (names_snapshot version.name ≡ true) → IsWellFormed pools → IsWellFormed (record (with_target pools target (with_version (received pools.next_txg version))) { next_txg = pools.next_txg + 1 })
+received-keeps : (pools : Pools) (target : List ℕ) (version : Version) → version_at pools target version.name ≡ None → (names_snap version.name ≡ true) → IsWellFormed pools → IsWellFormed (record (with_target pools target (with_version (received pools.next_txg version))) { next_txg = pools.next_txg + 1 })
 received-keeps pools target version none snapshot formed =
     let next : Pools = record pools { next_txg = pools.next_txg + 1 } in
     let free : MarkIsFree (received pools.next_txg version) = λ marked. refl in
@@ -92,7 +91,7 @@ transfer-keeps pools transfer none formed = choose (version_at pools transfer.so
   choose None is = formed
   choose (Some version) is =
       let name = version_at-name pools transfer.source transfer.to version is in
-      received-keeps pools transfer.target version (ap (version_at pools transfer.target) name ∙ none) (ap names_snapshot name) formed
+      received-keeps pools transfer.target version (ap (version_at pools transfer.target) name ∙ none) (ap names_snap name) formed
 
 all-reversed : {T : Type 0} (P : T → Type 0) (xs : List T) → All P (reverse xs) → All P xs
 all-reversed {T} P xs each = λ k d inside.
@@ -110,7 +109,7 @@ none-found {T} test (x ∷ xs) each =
 -- a version that is no snapshot has no snapshot's name
 no-snapshot : (name : List ℕ) (version : Version) → is_snapshot version ≡ false → has_name (Snap name) version ≡ false
 no-snapshot name version none = by-name version.name none where
-  by-name : (n : VersionName) → names_snapshot n ≡ false → same_name (Snap name) n ≡ false
+  by-name : (n : VersionName) → names_snap n ≡ false → same_name (Snap name) n ≡ false
   by-name (Snap other) e = cc
   by-name (Mark other) e = refl
 

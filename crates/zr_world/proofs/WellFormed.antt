@@ -6,16 +6,17 @@ use Rattle.std.specs.Option.{is_some, option_and_then, option_map_or}
 use Rattle.std.proofs.lemmas.List.Elements.{All-cons, All-filter, All-nil}
 use Rattle.std.proofs.lemmas.List.Kept.{AllPairs-filter}
 use Rattle.std.proofs.lemmas.List.Quantifiers.{all_pairs_push}
-use Rattle.zr_names.proofs.Lists.{AllPairs-nil, found_from_All}
+use Rattle.zr_base.proofs.Lists.{AllPairs-nil, found_from_All}
 use Rattle.zr_world.specs.declared.pools.Dataset.{Dataset}
 use Rattle.zr_world.specs.declared.pools.Pools.{Pools}
 use Rattle.zr_world.specs.declared.pools.Version.{Version}
-use Rattle.zr_world.specs.declared.version.VersionName.{VersionName}
-use Rattle.zr_world.specs.declared.version.VersionName.TheVariants.{Snap, Mark}
+use Rattle.zr_command.specs.declared.version.VersionName.{VersionName}
+use Rattle.zr_command.specs.declared.version.VersionName.TheVariants.{Snap, Mark}
 use Rattle.zr_world.specs.Effect.{put_in, new_set, set_before, version_before, with_set, with_tags, with_target, with_version, without, without_tag}
-use Rattle.zr_world.specs.Lookup.{dataset_at, has_name, is_at, same_name, same_text, tags_at, version_at}
-use Rattle.zr_world.specs.Pools.{is_below, stands_before, MarkIsFree, IsWellFormed, IsWellFormedSet}
-use Rattle.zr_world.specs.Reasons.{is_tagged}
+use Rattle.zr_world.specs.Lookup.{dataset_at, has_name, is_at, tags_at, version_at}
+use Rattle.zr_command.specs.Names.{is_below, is_tagged, same_name, same_text}
+use Rattle.zr_command.specs.Listings.{stands_before}
+use Rattle.zr_world.specs.Pools.{MarkIsFree, IsWellFormed, IsWellFormedSet}
 use Rattle.zr_world.proofs.Keeping.{first_changed-All, first_changed-pairs, found-none, found-passes, put_in-All, put_in-ordered, put_in-pairs}
 use Rattle.zr_world.proofs.Order.{set-chained, set-flipped, version-chained, version-flipped}
 

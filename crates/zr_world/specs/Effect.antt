@@ -2,14 +2,11 @@ use Rattle.std.specs.Prelude.{◌≡◌, ℕ, ◌+◌, Bool, false, not, if◌th
 use Rattle.std.specs.Option.{option_map_or}
 use Rattle.std.specs.List.{Contains}
 use Rattle.zr_names.specs.Marks.{tag_text}
-use Rattle.zr_names.specs.declared.unit.Guid.{Guid}
-use Rattle.zr_world.specs.declared.command.Base.{Base}
-use Rattle.zr_world.specs.declared.command.Base.TheVariants as base
-use Rattle.zr_world.specs.declared.command.Cmd.{Cmd}
-use Rattle.zr_world.specs.declared.command.Cmd.TheVariants as cmd
-use Rattle.zr_world.specs.declared.command.Reply.{Reply}
-use Rattle.zr_world.specs.declared.command.Reply.TheVariants as reply
-use Rattle.zr_world.specs.declared.command.Transfer.{Transfer}
+use Rattle.zr_command.specs.declared.command.Cmd.{Cmd}
+use Rattle.zr_command.specs.declared.command.Cmd.TheVariants as cmd
+use Rattle.zr_command.specs.declared.command.Reply.{Reply}
+use Rattle.zr_command.specs.declared.command.Reply.TheVariants as reply
+use Rattle.zr_command.specs.declared.command.Transfer.{Transfer}
 use Rattle.zr_world.specs.declared.effects.ApplyFault.{ApplyFault}
 use Rattle.zr_world.specs.declared.effects.ApplyFault.TheVariants.{Refused, NoMemory}
 use Rattle.zr_world.specs.declared.effects.Extent.{Extent}
@@ -19,10 +16,12 @@ use Rattle.zr_world.specs.declared.pools.Dataset.{Dataset}
 use Rattle.zr_world.specs.declared.pools.Partial.{Partial}
 use Rattle.zr_world.specs.declared.pools.Pools.{Pools}
 use Rattle.zr_world.specs.declared.pools.Version.{Version}
-use Rattle.zr_world.specs.declared.version.VersionName.{VersionName}
-use Rattle.zr_world.specs.declared.version.VersionName.TheVariants.{Snap, Mark}
-use Rattle.zr_world.specs.Lookup.{dataset_at, has_name, is_at, same_text, tags_at, version_at}
-use Rattle.zr_world.specs.Pools.{is_below, stands_before}
+use Rattle.zr_command.specs.declared.version.VersionName.{VersionName}
+use Rattle.zr_command.specs.declared.version.VersionName.TheVariants.{Snap, Mark}
+use Rattle.zr_world.specs.Lookup.{dataset_at, has_name, is_at, tags_at, version_at}
+use Rattle.zr_command.specs.Names.{is_below, same_text}
+use Rattle.zr_command.specs.Plain.{base_guid}
+use Rattle.zr_command.specs.Listings.{stands_before}
 use Rattle.zr_world.specs.Reasons.{refusal, refusal_since}
 use Rattle.zr_world.specs.Rows.{row_of_set, row_of_version}
 
@@ -81,10 +80,6 @@ with_target pools path change =
 -- the snapshot that a receive makes: with the name, guid and time of the one sent, in a new transaction group
 abbrev pub received : ℕ → Version → Version
 received txg version = record version { txg = txg; tags = [] }
-
-abbrev pub base_guid : Base → Option Guid
-base_guid base.Full = None
-base_guid (base.From mark guid) = Some guid
 
 -- what a transfer of which a part came leaves on its target
 abbrev pub partial_of : Transfer → Partial

@@ -3,7 +3,6 @@ pub mod Effect
 pub mod Lookup
 pub mod Mem
 pub mod Memory
-pub mod Plain
 pub mod Pools
 pub mod Reasons
 pub mod Rows

@@ -1,35 +1,20 @@
-use Rattle.std.specs.Prelude.{◌==◌, ◌&&◌, ℕ, Bool, true, false, not, List, [], Option, nat_eq, ◌∷◌, find, is_some, is_none, drop, length, nat_lt, reverse, take}
-use Rattle.std.specs.Cmp.Lexicographic.{pointwise}
+use Rattle.std.specs.Prelude.{◌==◌, ◌&&◌, ℕ, Bool, false, not, List, [], Option, ◌∷◌, find, is_some, is_none, drop, length, nat_lt, reverse, take}
 use Rattle.std.specs.List.{list_any}
 use Rattle.std.specs.Option.{option_and_then, option_map_or}
 use Rattle.zr_names.specs.declared.unit.Guid.{Guid}
 use Rattle.zr_world.specs.declared.pools.Dataset.{Dataset}
 use Rattle.zr_world.specs.declared.pools.Pools.{Pools}
 use Rattle.zr_world.specs.declared.pools.Version.{Version}
-use Rattle.zr_world.specs.declared.version.VersionName.{VersionName}
-use Rattle.zr_world.specs.declared.version.VersionName.TheVariants.{Snap, Mark}
-
--- two texts are equal
-abbrev pub same_text : List ℕ → List ℕ → Bool
-same_text one other = pointwise nat_eq one other
-
--- two names are of one kind, and equal
-abbrev pub same_name : VersionName → VersionName → Bool
-same_name (Snap one) (Snap other) = same_text other one
-same_name (Snap one) (Mark other) = false
-same_name (Mark one) (Snap other) = false
-same_name (Mark one) (Mark other) = same_text other one
+use Rattle.zr_command.specs.declared.version.VersionName.{VersionName}
+use Rattle.zr_command.specs.Kinds.{names_snap}
+use Rattle.zr_command.specs.Names.{same_name, same_text}
 
 -- the version has this name
 abbrev pub has_name : VersionName → Version → Bool
 has_name name version = same_name name version.name
 
-abbrev pub names_snapshot : VersionName → Bool
-names_snapshot (Snap name) = true
-names_snapshot (Mark name) = false
-
 abbrev pub is_snapshot : Version → Bool
-is_snapshot version = names_snapshot version.name
+is_snapshot version = names_snap version.name
 
 -- the dataset has this path
 abbrev pub is_at : List ℕ → Dataset → Bool

@@ -1,9 +1,9 @@
 use Rattle.std.specs.Prelude.{◌≡◌, List, [], ◌∷◌, ◌++◌, ◌⊎◌}
-use Rattle.zr_world.specs.declared.command.Answer.{Answer}
-use Rattle.zr_world.specs.declared.command.Answer.TheVariants.{NoMemory}
-use Rattle.zr_world.specs.declared.command.Cmd.{Cmd}
-use Rattle.zr_world.specs.declared.command.Entry.{Entry}
-use Rattle.zr_world.specs.declared.command.Entry.TheVariants.{Call}
+use Rattle.zr_command.specs.declared.command.Answer.{Answer}
+use Rattle.zr_command.specs.declared.command.Answer.TheVariants.{NoMemory}
+use Rattle.zr_command.specs.declared.command.Cmd.{Cmd}
+use Rattle.zr_command.specs.declared.command.Entry.{Entry}
+use Rattle.zr_command.specs.declared.command.Entry.TheVariants.{Call}
 
 -- the call was put into the record and its answer is passed on, or the record is as before and want of
 -- memory is answered

@@ -1,5 +1,5 @@
 use Rattle.std.specs.Prelude.{ℕ, List}
-use Rattle.zr_world.specs.declared.command.Entry.{Entry}
+use Rattle.zr_command.specs.declared.command.Entry.{Entry}
 use Rattle.zr_world.specs.declared.planned.Planned.{Planned}
 use Rattle.zr_world.specs.declared.pools.Pools.{Pools}
 

@@ -1,27 +1,24 @@
-use Rattle.std.specs.Prelude.{◌==◌, ◌||◌, ℕ, ◌-◌, ◌^◌, Bool, true, false, not, if◌then◌else◌, List, [], ◌∷◌, ◌++◌, Option, Some, None, is_none, is_some, length}
-use Rattle.std.specs.List.{list_any}
+use Rattle.std.specs.Prelude.{◌==◌, ◌||◌, ◌-◌, ◌^◌, Bool, true, false, not, if◌then◌else◌, List, [], ◌∷◌, ◌++◌, Option, Some, None, is_none, is_some, length}
 use Rattle.std.specs.Option.{option_map_or}
 use Rattle.zr_names.specs.Marks.{tag_text}
 use Rattle.zr_names.specs.declared.unit.Guid.{Guid}
-use Rattle.zr_world.specs.declared.command.Base.{Base}
-use Rattle.zr_world.specs.declared.command.Base.TheVariants as base
-use Rattle.zr_world.specs.declared.command.Cmd.{Cmd}
-use Rattle.zr_world.specs.declared.command.Cmd.TheVariants as cmd
-use Rattle.zr_world.specs.declared.command.Transfer.{Transfer}
+use Rattle.zr_command.specs.declared.command.Base.{Base}
+use Rattle.zr_command.specs.declared.command.Base.TheVariants as base
+use Rattle.zr_command.specs.declared.command.Cmd.{Cmd}
+use Rattle.zr_command.specs.declared.command.Cmd.TheVariants as cmd
+use Rattle.zr_command.specs.declared.command.Transfer.{Transfer}
 use Rattle.zr_world.specs.declared.effects.Refusal.{Refusal}
 use Rattle.zr_world.specs.declared.effects.Refusal.TheVariants.{NoSuch, Exists, Held, TagThere, TagMissing, NotNewest, HasPartial, Spent}
 use Rattle.zr_world.specs.declared.pools.Dataset.{Dataset}
 use Rattle.zr_world.specs.declared.pools.Pools.{Pools}
-use Rattle.zr_world.specs.declared.version.VersionName.TheVariants.{Snap, Mark}
-use Rattle.zr_world.specs.Lookup.{dataset_at, has_guid, in_first_receive, newest, parent_at, same_text, stands, tags_at, version_at}
+use Rattle.zr_command.specs.declared.version.VersionName.TheVariants.{Snap, Mark}
+use Rattle.zr_world.specs.Lookup.{dataset_at, has_guid, in_first_receive, newest, parent_at, stands, tags_at, version_at}
+use Rattle.zr_command.specs.Names.{is_tagged}
 
 -- the refusal whose condition is the first that applies
 abbrev pub first_that_applies : List (Bool × Refusal) → Option Refusal
 first_that_applies [] = None
 first_that_applies (reason ∷ more) = if reason.0 then Some reason.1 else first_that_applies more
-
-abbrev pub is_tagged : List (List ℕ) → List ℕ → Bool
-is_tagged tags tag = list_any (λ other. same_text other tag) tags
 
 -- no transaction group is left
 abbrev pub is_spent : Pools → Bool

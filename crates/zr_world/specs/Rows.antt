@@ -4,8 +4,8 @@ use Rattle.zr_names.specs.declared.unit.Guid.{Guid}
 use Rattle.zr_world.specs.declared.pools.Dataset.{Dataset}
 use Rattle.zr_world.specs.declared.pools.Partial.{Partial}
 use Rattle.zr_world.specs.declared.pools.Version.{Version}
-use Rattle.zr_world.specs.declared.version.SetRow.{SetRow}
-use Rattle.zr_world.specs.declared.version.VersionRow.{VersionRow}
+use Rattle.zr_command.specs.declared.version.SetRow.{SetRow}
+use Rattle.zr_command.specs.declared.version.VersionRow.{VersionRow}
 
 -- the incremental source of a partial receive in a token of the model: 16 digits, or `none`
 abbrev pub from_text : Option Guid → List ℕ

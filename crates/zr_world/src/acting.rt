@@ -3,10 +3,10 @@ ghost use Rattle.zr_world.specs.Answering.{Answers, Fits, HasCause, is_garbled};
 ghost use Rattle.zr_world.specs.Pools.{IsWellFormed};
 ghost use Rattle.zr_world.specs.Reasons.{refusal};
 
-use crate::command::{Answer, Cmd};
 use crate::effects::{ApplyFault, Extent, apply};
 use crate::pools::Pools;
 use std::alloc::Global;
+use zr_command::{Answer, Cmd};
 
 /// Answers a command as ZFS does on these pools, or fails it at a planned extent.
 pub fn act(

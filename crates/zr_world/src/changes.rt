@@ -1,23 +1,13 @@
 ghost use Rattle.std.specs.Prelude.{◌≡◌, OnErr, OnOk, ◌≤◌, filter, length, not, position};
 ghost use Rattle.std.specs.List.{position_or_len};
-ghost use Rattle.zr_world.specs.Effect.{
-  first_changed,
-  put_in,
-  set_before,
-  version_before,
-  with_partial,
-  with_set,
-  with_tags,
-  with_version,
-  without,
-};
+ghost use Rattle.zr_world.specs.Effect.{first_changed, put_in, set_before, version_before, with_partial, with_set, with_tags, with_version, without};
 ghost use Rattle.zr_world.specs.Lookup.{has_name, is_at};
-ghost use Rattle.zr_world.specs.declared.version.VersionName.TheVariants.{Snap};
+ghost use Rattle.zr_command.specs.declared.version.VersionName.TheVariants.{Snap};
 
 use crate::pools::{Dataset, Partial, Pools, Version};
-use crate::version::VersionName;
 use std::alloc::Global;
 use std::mem;
+use zr_command::VersionName;
 use zr_names::{NoMemory, Path, Rows, SnapName, Tag};
 
 /// The place of the dataset at this path.
@@ -109,7 +99,7 @@ fn replace_tags(versions: &mut [Version], name: &SnapName, tags: Rows<Tag>)
 impl Dataset {
     ghost use Rattle.std.specs.Prelude.{◌≡◌, OnErr, OnOk};
     ghost use Rattle.zr_world.specs.Effect.{with_tags, with_version, without};
-    ghost use Rattle.zr_world.specs.declared.version.VersionName.TheVariants.{Snap};
+    ghost use Rattle.zr_command.specs.declared.version.VersionName.TheVariants.{Snap};
 
     fn add(&mut self, alloc: Global, version: Version) -> Result<(), NoMemory>
         ensures ok { OnOk result (self.new ≡ with_version version self.old) }

@@ -1,36 +1,24 @@
 ghost use Rattle.std.specs.Prelude.{◌≡◌, ◌++◌, ◌∷◌, [], None, false, IfOk, OnOk, OnErr, map, option_map};
 ghost use Rattle.std.specs.Option.{option_map_or};
 ghost use Rattle.zr_names.specs.Marks.{tag_text};
-ghost use Rattle.zr_world.specs.Effect.{
-  after_since,
-  Applies,
-  bookmarked,
-  part_of,
-  received,
-  reply_to,
-  step_at,
-  with_target,
-  with_version,
-  without_tag,
-};
+ghost use Rattle.zr_world.specs.Effect.{after_since, Applies, bookmarked, part_of, received, reply_to, step_at, with_target, with_version, without_tag};
 ghost use Rattle.zr_world.specs.Lookup.{dataset_at, tags_at, version_at};
 ghost use Rattle.zr_world.specs.Reasons.{is_spent, refusal};
 ghost use Rattle.zr_world.specs.Rows.{row_of_set, row_of_version};
-ghost use Rattle.zr_world.specs.declared.command.Cmd.TheVariants as cmd;
-ghost use Rattle.zr_world.specs.declared.version.VersionName.TheVariants.{Snap};
+ghost use Rattle.zr_command.specs.declared.command.Cmd.TheVariants as cmd;
+ghost use Rattle.zr_command.specs.declared.version.VersionName.TheVariants.{Snap};
 
 use crate::changes::{add_version, change_tags, make_set, remove_version, set_partial};
-use crate::command::{Cmd, Reply, Transfer};
-use crate::pools::{Dataset, Pools, Version};
+use crate::pools::{Dataset, Partial, Pools, Version};
 use crate::reasons::{is_of, refusal, tags_at};
-use crate::version::{SetRow, VersionName, VersionRow};
 use std::alloc::Global;
+use zr_command::{Cmd, Reply, SetRow, Transfer, VersionName, VersionRow};
 use zr_names::{
     JobName, MarkName, NoMemory, Path, Rows, Same, SnapName, Tag, TagKind, same_items, tag_of,
 };
 
 /// How much of a command's effect comes.
-#[derive(Clone, Copy, Debug, PartialEq, Eq)]
+#[derive(Clone, Copy, PartialEq, Eq)]
 pub enum Extent {
     None,
     /// A transfer leaves a partial receive; for other commands nothing comes.
@@ -39,7 +27,7 @@ pub enum Extent {
 }
 
 /// Why ZFS refuses a command.
-#[derive(Clone, Copy, Debug, PartialEq, Eq)]
+#[derive(Clone, Copy, PartialEq, Eq)]
 pub enum Refusal {
     /// A dataset, a snapshot or a bookmark is not there.
     NoSuch,
@@ -60,7 +48,7 @@ pub enum Refusal {
 }
 
 /// Why `apply` gives no reply.
-#[derive(Clone, Copy, Debug, PartialEq, Eq)]
+#[derive(Clone, Copy, PartialEq, Eq)]
 pub enum ApplyFault {
     Refused(Refusal),
     NoMemory,
@@ -272,7 +260,7 @@ fn leave_partial(alloc: Global, pools: &mut Pools, transfer: &Transfer) -> Resul
     ensures ok { OnOk result (pools.new ≡ part_of pools.old (cmd.Transfer transfer.now)) }
     ensures err { OnErr result (pools.new ≡ pools.old) }
 {
-    let partial = transfer.partial()?;
+    let partial = Partial::of(transfer)?;
     if pools.dataset(&transfer.target).is_some() {
         set_partial(alloc, pools, &transfer.target, partial);
         return Ok(());

@@ -1,7 +1,7 @@
 ghost use Rattle.std.specs.Prelude.{◌≡◌, [], Some};
 ghost use Rattle.zr_world.specs.Effect.{Effect, EffectSince};
 ghost use Rattle.zr_world.specs.Reasons.{refusal};
-ghost use Rattle.zr_world.specs.declared.command.Cmd.{Cmd};
+ghost use Rattle.zr_command.specs.declared.command.Cmd.{Cmd};
 ghost use Rattle.zr_world.specs.declared.effects.Extent.{Extent};
 ghost use Rattle.zr_world.specs.declared.effects.Extent.TheVariants.{None};
 ghost use Rattle.zr_world.specs.declared.effects.Refusal.{Refusal};

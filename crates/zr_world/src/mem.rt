@@ -1,14 +1,14 @@
 ghost use Rattle.std.specs.Prelude.{◌≡◌, ◌++◌, ◌∷◌, [], IfOk, OnOk, OnErr};
 ghost use Rattle.zr_world.specs.Mem.{Recorded};
-ghost use Rattle.zr_world.specs.Plain.{plain};
+ghost use Rattle.zr_command.specs.Plain.{plain};
 
 use crate::acting::act;
-use crate::command::{Answer, Cmd, Entry};
 use crate::planned::Planned;
 use crate::pools::Pools;
 use crate::zfs::Zfs;
 use std::alloc::{AllocError, Global};
 use std::marker::Model;
+use zr_command::{Answer, Cmd, Entry};
 use zr_names::{NoMemory, Same, Unit};
 
 /// A runner over pools in memory. It tells its pools and its record.
@@ -87,7 +87,14 @@ fn begin_entry(unit: &Unit, run: u64) -> Result<Entry, AllocError>
 fn call_entry(cmd: &Cmd, answer: &Answer) -> Result<Entry, AllocError>
     ensures { IfOk result (λ entry. entry ≡ Entry.Call (plain cmd.now) answer.now) }
 {
-    Ok(Entry::Call(cmd.plain()?, answer.same()?))
+    let answer = answer.same()?;
+    match cmd.plain() {
+        Ok(cmd) => Ok(Entry::Call(cmd, answer)),
+        Err(fault) => {
+            drop(answer);
+            Err(fault)
+        }
+    }
 }
 
 fn push(told: &mut Vec<Entry>, entry: Entry) -> Result<(), NoMemory>
@@ -103,11 +110,15 @@ fn recorded(told: &mut Vec<Entry>, cmd: &Cmd, answer: Answer) -> Answer
     ensures { Recorded told.old.items told.new.items (plain cmd.now) answer result }
 {
     let Ok(entry) = call_entry(cmd, &answer) else {
+        drop(answer);
         return Answer::NoMemory;
     };
     match push(told, entry) {
         Ok(()) => answer,
-        Err(NoMemory) => Answer::NoMemory,
+        Err(NoMemory) => {
+            drop(answer);
+            Answer::NoMemory
+        }
     }
 }
 

@@ -1,7 +1,7 @@
 use crate::effects::Extent;
 
 /// A call that is to fail, counted from 1, and how much of its effect comes before.
-#[derive(Clone, Copy, Debug, PartialEq, Eq)]
+#[derive(Clone, Copy, PartialEq, Eq)]
 pub struct Planned {
     pub call: u64,
     pub extent: Extent,

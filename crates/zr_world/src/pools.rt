@@ -3,13 +3,13 @@ ghost use Rattle.std.specs.List.{list_any};
 ghost use Rattle.zr_world.specs.Lookup.{is_component, is_parent};
 ghost use Rattle.zr_world.specs.Rows.{from_text};
 
-use crate::version::{SetRow, VersionName, VersionRow};
 use std::alloc::{AllocError, Global};
+use zr_command::{SetRow, Transfer, VersionName, VersionRow};
 use zr_names::names::PATH_LIMIT;
 use zr_names::{Bytes, Guid, MarkName, Path, Rows, Same, SnapName, Tag, TokenText};
 
 /// A snapshot or a bookmark as it stands in a pool.
-#[derive(Debug, Drop)]
+#[derive(Drop)]
 pub struct Version {
     pub name: VersionName,
     pub guid: Guid,
@@ -21,15 +21,31 @@ pub struct Version {
 }
 
 /// The state that an interrupted receive left on its target (zfs-receive(8), `-s`).
-#[derive(Debug, Drop)]
+#[derive(Drop)]
 pub struct Partial {
     pub to: Guid,
     pub from: Option<Guid>,
     pub source: Path,
 }
 
+impl Partial {
+    ghost use Rattle.std.specs.Prelude.{◌≡◌, IfOk};
+    ghost use Rattle.zr_world.specs.Effect.{partial_of};
+
+    /// The partial receive that a transfer leaves where it is cut.
+    pub fn of(transfer: &Transfer) -> Result<Partial, AllocError>
+        ensures { IfOk result (λ partial. partial ≡ partial_of transfer.now) }
+    {
+        Ok(Partial {
+            to: transfer.guid,
+            from: transfer.base.guid(),
+            source: transfer.source.same()?,
+        })
+    }
+}
+
 /// A filesystem or volume with its snapshots and bookmarks.
-#[derive(Debug, Drop)]
+#[derive(Drop)]
 pub struct Dataset {
     pub path: Path,
     pub placeholder: bool,
@@ -38,7 +54,7 @@ pub struct Dataset {
 }
 
 /// All datasets of all pools, the time in seconds, and the next transaction group and guid.
-#[derive(Debug, Drop)]
+#[derive(Drop)]
 pub struct Pools {
     pub sets: Rows<Dataset>,
     pub now: u64,
@@ -88,7 +104,7 @@ impl Version {
     ghost use Rattle.zr_world.specs.Effect.{bookmark_of, received, version_before};
     ghost use Rattle.zr_world.specs.Lookup.{has_guid, has_name, is_snapshot};
     ghost use Rattle.zr_world.specs.Rows.{row_of_version};
-    ghost use Rattle.zr_world.specs.declared.version.VersionName.TheVariants.{Mark, Snap};
+    ghost use Rattle.zr_command.specs.declared.version.VersionName.TheVariants.{Mark, Snap};
 
     /// How it shows in a listing.
     pub fn row(&self) -> Result<VersionRow, AllocError>
@@ -189,7 +205,7 @@ impl Dataset {
     ghost use Rattle.zr_world.specs.Effect.{new_set};
     ghost use Rattle.zr_world.specs.Lookup.{has_name, in_first_receive, newest};
     ghost use Rattle.zr_world.specs.Rows.{row_of_set};
-    ghost use Rattle.zr_world.specs.declared.version.VersionName.TheVariants.{Mark, Snap};
+    ghost use Rattle.zr_command.specs.declared.version.VersionName.TheVariants.{Mark, Snap};
 
     /// A dataset without versions, as a transfer makes it.
     pub fn new(alloc: Global, path: Path) -> Dataset
@@ -287,7 +303,7 @@ impl Pools {
     ghost use Rattle.std.specs.Prelude.{◌≡◌};
     ghost use Rattle.std.specs.Option.{option_copied};
     ghost use Rattle.zr_world.specs.Lookup.{dataset_at, parent_at, version_at};
-    ghost use Rattle.zr_world.specs.declared.version.VersionName.TheVariants.{Mark, Snap};
+    ghost use Rattle.zr_command.specs.declared.version.VersionName.TheVariants.{Mark, Snap};
 
     /// The dataset at this path.
     pub fn dataset<'a>(&'a self, path: &Path) -> Option<&'a Dataset>

@@ -1,26 +1,16 @@
 ghost use Rattle.std.specs.Prelude.{◌≡◌, ◌∷◌, [], None, Some, false, is_none, not};
 ghost use Rattle.std.specs.Option.{option_copied, option_map_or};
 ghost use Rattle.zr_names.specs.Marks.{tag_text};
-ghost use Rattle.zr_world.specs.Lookup.{has_guid, same_text, tags_at, version_at};
-ghost use Rattle.zr_world.specs.Reasons.{
-  first_that_applies,
-  full_reasons,
-  increment_reasons,
-  is_spent,
-  is_tagged,
-  reasons,
-  refusal,
-  source_reasons,
-  target_reasons,
-};
-ghost use Rattle.zr_world.specs.declared.command.Cmd.TheVariants as cmd;
+ghost use Rattle.zr_world.specs.Lookup.{has_guid, tags_at, version_at};
+ghost use Rattle.zr_command.specs.Names.{is_tagged, same_text};
+ghost use Rattle.zr_world.specs.Reasons.{first_that_applies, full_reasons, increment_reasons, is_spent, reasons, refusal, source_reasons, target_reasons};
+ghost use Rattle.zr_command.specs.declared.command.Cmd.TheVariants as cmd;
 ghost use Rattle.zr_world.specs.declared.effects.Refusal.TheVariants.{NoSuch, Spent};
-ghost use Rattle.zr_world.specs.declared.version.VersionName.TheVariants.{Snap};
+ghost use Rattle.zr_command.specs.declared.version.VersionName.TheVariants.{Snap};
 
-use crate::command::{Base, Cmd, Transfer};
 use crate::effects::Refusal;
 use crate::pools::{Dataset, Pools, Version};
-use crate::version::VersionName;
+use zr_command::{Base, Cmd, Transfer, VersionName};
 use zr_names::{Guid, JobName, MarkName, Path, SnapName, Tag, TagKind, is_tag};
 
 /// Whether a tag is that of a job's holds of a kind.

@@ -1,11 +1,11 @@
 ghost use Rattle.std.specs.Prelude.{◌≡◌, ℕ, [], ◌∷◌, List, Option, OnOk, OnErr};
 ghost use Rattle.zr_world.specs.Answering.{Acts, appended, Fits, HasCause, Logs};
-ghost use Rattle.zr_world.specs.Plain.{plain};
-ghost use Rattle.zr_world.specs.declared.command.Entry.{Entry as EntryValue};
-ghost use Rattle.zr_world.specs.declared.command.Entry.TheVariants.{Begin};
+ghost use Rattle.zr_command.specs.Plain.{plain};
+ghost use Rattle.zr_command.specs.declared.command.Entry.{Entry as EntryValue};
+ghost use Rattle.zr_command.specs.declared.command.Entry.TheVariants.{Begin};
 ghost use Rattle.zr_world.specs.declared.pools.Pools.{Pools as PoolsValue};
 
-use crate::command::{Answer, Cmd};
+use zr_command::{Answer, Cmd};
 use zr_names::{NoMemory, Unit};
 
 /// Runs ZFS commands, one at a time. Nothing happens after the answer.

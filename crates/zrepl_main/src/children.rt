@@ -1,30 +1,24 @@
 ghost use Rattle.std.specs.Prelude.{◌≡◌, ◌≤◌, None, true, false};
 ghost use Rattle.zr_exec.specs.Exits.{is_child_fault, is_pipe_fault};
-ghost use Rattle.zr_names.specs.Count.{Rose};
+ghost use Rattle.zr_base.specs.Count.{Rose};
 
 use crate::piping::pipe_to_end;
-use crate::running::run_to_end;
-use std::alloc::Global;
+use crate::running::{Starter, run_to_end};
 use std::process::Processes;
 use zr_exec::{PipeExit, RunExit, Spawn};
 use zr_names::{NoMemory, Unit};
 
-/// Runs programs of the system. A child has no input but the other end of its pipe, and its standard
-/// error is this process's.
+/// Runs programs of the system. A child has no input but the other end of its pipe, and its standard error is this
+/// process's, where there is one.
 #[derive(Drop)]
 pub struct RealSpawn<P> {
-    rt: P,
-    alloc: Global,
+    starter: Starter<P>,
     faults: u64,
 }
 
 impl<P: Processes> RealSpawn<P> {
-    pub fn new(rt: P, alloc: Global) -> RealSpawn<P> {
-        RealSpawn {
-            rt,
-            alloc,
-            faults: 0,
-        }
+    pub fn new(starter: Starter<P>) -> RealSpawn<P> {
+        RealSpawn { starter, faults: 0 }
     }
 }
 
@@ -71,13 +65,13 @@ impl<P: Processes> Spawn for RealSpawn<P> {
     }
 
     fn run(&mut self, argv: &[String], out: &mut Vec<u8>) -> RunExit {
-        let exit = run_to_end(&self.rt, self.alloc, argv, out);
+        let exit = run_to_end(&self.starter, argv, out);
         count(is_child_fault(exit), &mut self.faults);
         exit
     }
 
     fn pipe(&mut self, send: &[String], receive: &[String]) -> PipeExit {
-        let exit = pipe_to_end(&self.rt, self.alloc, send, receive);
+        let exit = pipe_to_end(&self.starter, send, receive);
         count(is_pipe_fault(exit), &mut self.faults);
         exit
     }

@@ -1,11 +1,11 @@
 ghost use Rattle.std.specs.Prelude.{None};
 
-use crate::reading::{Reading, read_up_to};
 use std::alloc::Global;
-use std::fs;
 use std::fs::File;
 use std::io::ErrorKind;
+use std::{fs, io};
 use zr_names::Bytes;
+use zr_pipe::{Reading, read_up_to};
 use zr_top::{Files, ReadFault};
 
 /// Files of the system.
@@ -28,6 +28,28 @@ impl<F: fs::Files> RealFiles<F> {
     }
 }
 
+/// Whether a fault is want of memory.
+fn reading_of(fault: &io::Error) -> Reading {
+    if fault.kind() == ErrorKind::OutOfMemory {
+        Reading::NoMemory
+    } else {
+        Reading::Failed
+    }
+}
+
+/// Opens a file, or what a link leads to. All else is refused at once: a FIFO would be waited for, and a device has no end.
+fn open<F: fs::Files>(files: &F, path: &str) -> Result<F::File, Reading> {
+    match fs::metadata(files, path) {
+        Ok(found) if found.is_file() => {}
+        Ok(_) => return Err(Reading::Failed),
+        Err(fault) => return Err(reading_of(&fault)),
+    }
+    match File::open(files, path) {
+        Ok(file) => Ok(file),
+        Err(fault) => Err(reading_of(&fault)),
+    }
+}
+
 /// Reads a file to its end, or its first bytes.
 fn read_file<F: fs::Files>(
     files: &F,
@@ -35,11 +57,7 @@ fn read_file<F: fs::Files>(
     path: &str,
     most: usize,
 ) -> Result<Vec<u8>, Reading> {
-    let mut file = match File::open(files, path) {
-        Ok(file) => file,
-        Err(fault) if fault.kind() == ErrorKind::OutOfMemory => return Err(Reading::NoMemory),
-        Err(_) => return Err(Reading::Failed),
-    };
+    let mut file = open(files, path)?;
     let mut bytes = Vec::new(alloc);
     match read_up_to(alloc, &mut file, &mut bytes, most) {
         Reading::Whole | Reading::TooLong => Ok(bytes),

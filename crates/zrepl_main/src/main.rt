@@ -6,21 +6,22 @@ ghost use Rattle.std.specs.Prelude.{◌≡◌, IfOk, vec_len};
 mod children;
 mod clock;
 mod files;
-mod input;
-mod output;
 mod piping;
-mod reading;
 mod running;
+#[cfg(test)]
+mod tests;
 
 use children::RealSpawn;
 use clock::RealClock;
 use files::RealFiles;
-use output::Output;
-use std::alloc::{AllocError, Global};
-use std::env;
+use running::{Errors, Starter};
+use std::alloc::AllocError;
 use std::env::Env;
+use std::fs::Files;
 use std::io::ErrorKind;
 use std::process::{ExitCode, Processes};
+use std::{env, fs};
+use zr_pipe::Output;
 use zr_top::{Status, zrepl};
 
 /// How many children may run at once.
@@ -41,19 +42,34 @@ fn words<R: Env + AllocGlobal>(rt: &R) -> Result<Vec<String>, AllocError> {
     }
 }
 
-fn runners<P: Processes + Copy>(rt: P, alloc: Global) -> Result<Vec<RealSpawn<P>>, AllocError>
+/// Whether this process has a standard error. Where the system does not tell its open files, it is taken to have one.
+fn errors<F: Files>(files: &F) -> Errors {
+    let told = fs::metadata(files, "/proc/self/fd").is_ok();
+    if told && fs::metadata(files, "/proc/self/fd/2").is_err() {
+        Errors::Dropped
+    } else {
+        Errors::Shared
+    }
+}
+
+fn runners<P: Processes + Copy>(starter: Starter<P>) -> Result<Vec<RealSpawn<P>>, AllocError>
     ensures { IfOk result (λ runners. vec_len runners ≡ 16) }
 {
-    let mut runners = Vec::new(alloc);
+    let mut runners = Vec::new(starter.alloc);
     for _ in 0..RUNNERS {
-        runners.push(RealSpawn::new(rt, alloc))?;
+        runners.push(RealSpawn::new(starter))?;
     }
     Ok(runners)
 }
 
 fn main(rt: HostRuntime) -> ExitCode {
     let alloc = rt.alloc();
-    let (Ok(words), Ok(mut runners)) = (words(&rt), runners(rt, alloc)) else {
+    let starter = Starter {
+        rt,
+        alloc,
+        errors: errors(&rt),
+    };
+    let (Ok(words), Ok(mut runners)) = (words(&rt), runners(starter)) else {
         return ExitCode::from(Status::OutOfMemory.code());
     };
     let mut files = RealFiles::new(rt, alloc);

@@ -3,13 +3,11 @@ ghost use Rattle.std.specs.Process.{child_status};
 ghost use Rattle.zr_pipe.specs.Relay.{is_read_fault, is_write_fault};
 ghost use Rattle.zrepl_main.specs.Ended.{EndedWell};
 
-use crate::input::Input;
-use crate::output::Output;
-use crate::running::{put_down, start, unended, wait_for};
+use crate::running::{Starter, put_down, unended, wait_for};
 use std::alloc::Global;
 use std::process::{Child, OpenProcess, Processes, Stdio};
 use zr_exec::{PipeExit, RunExit};
-use zr_pipe::{RelayEnd, relay};
+use zr_pipe::{Input, Output, RelayEnd, relay};
 
 /// Moves what the sending end writes to the receiving end, whose input stays open.
 fn move_all<S: OpenProcess>(
@@ -35,14 +33,19 @@ fn joined(sent: RunExit, received: RunExit) -> PipeExit
     }
 }
 
-/// Waits for both, the receiving end first, which then sees the end of its input.
+/// Waits for both behind a whole stream. The sending end has closed its output, so it ends by itself; only where it ended
+/// well does the receiving end see the end of its input, so that no part of a stream is ever taken for the whole.
 fn wait_for_both<S: OpenProcess>(sender: &mut Child<S>, receiver: &mut Child<S>) -> PipeExit
     ensures sent { result ≡ PipeExit.Done → EndedWell (child_status sender.new) }
     ensures received { result ≡ PipeExit.Done → EndedWell (child_status receiver.new) }
 {
-    let received = wait_for(receiver);
-    let sent = wait_for(sender);
-    joined(sent, received)
+    match wait_for(sender) {
+        RunExit::Done => joined(RunExit::Done, wait_for(receiver)),
+        sent => {
+            put_down(receiver);
+            joined(sent, RunExit::Failed)
+        }
+    }
 }
 
 /// Ends both, the receiving end first, so that it never takes what came for the whole.
@@ -81,13 +84,12 @@ fn join<S: OpenProcess>(alloc: Global, sender: &mut Child<S>, receiver: &mut Chi
 
 /// Starts the sending end beside a receiving end that was started, and runs both to their ends.
 fn send_to<P: Processes>(
-    rt: &P,
-    alloc: Global,
+    starter: &Starter<P>,
     send: &[String],
     receiver: &mut Child<P::Started>,
 ) -> PipeExit {
-    match start(rt, alloc, send, Stdio::null(), Stdio::piped()) {
-        Ok(mut sender) => join(alloc, &mut sender, receiver),
+    match starter.start(send, Stdio::null(), Stdio::piped()) {
+        Ok(mut sender) => join(starter.alloc, &mut sender, receiver),
         Err(fault) => {
             put_down(receiver);
             joined(unended(&fault), RunExit::Failed)
@@ -97,13 +99,12 @@ fn send_to<P: Processes>(
 
 /// Runs two programs, the second of which reads what the first one writes, to their ends.
 pub fn pipe_to_end<P: Processes>(
-    rt: &P,
-    alloc: Global,
+    starter: &Starter<P>,
     send: &[String],
     receive: &[String],
 ) -> PipeExit {
-    match start(rt, alloc, receive, Stdio::piped(), Stdio::null()) {
-        Ok(mut receiver) => send_to(rt, alloc, send, &mut receiver),
+    match starter.start(receive, Stdio::piped(), Stdio::null()) {
+        Ok(mut receiver) => send_to(starter, send, &mut receiver),
         Err(fault) => joined(RunExit::Failed, unended(&fault)),
     }
 }

@@ -3,33 +3,55 @@ ghost use Rattle.std.specs.Process.{child_status};
 ghost use Rattle.zr_exec.specs.declared.spawn.TheConstants.{LISTING_LIMIT};
 ghost use Rattle.zrepl_main.specs.Ended.{EndedWell};
 
-use crate::reading::{Reading, read_up_to};
 use std::alloc::Global;
 use std::io;
 use std::io::ErrorKind;
 use std::process::{Child, Command, OpenProcess, Processes, Stdio};
 use zr_exec::{LISTING_LIMIT, RunExit};
+use zr_pipe::{Reading, read_up_to};
 
-/// Starts the program that the first word names.
-pub fn start<P: Processes>(
-    rt: &P,
-    alloc: Global,
-    argv: &[String],
-    stdin: Stdio,
-    stdout: Stdio,
-) -> io::Result<Child<P::Started>> {
-    let Some(program) = argv.first() else {
-        return Err(io::Error::from(ErrorKind::InvalidInput));
-    };
-    let mut command = Command::new(alloc, program.as_str())?;
-    for word in &argv[1..] {
-        command.arg(word.as_str())?;
+/// Where a child's standard error goes.
+#[derive(Clone, Copy)]
+pub enum Errors {
+    /// To this process's.
+    Shared,
+    /// Nowhere: this process has none, and the first file that a child opens would get its number.
+    Dropped,
+}
+
+/// What starts children.
+#[derive(Clone, Copy)]
+pub struct Starter<P> {
+    pub rt: P,
+    pub alloc: Global,
+    pub errors: Errors,
+}
+
+impl<P: Processes> Starter<P> {
+    /// Starts the program that the first word names. Its environment is this process's.
+    pub fn start(
+        &self,
+        argv: &[String],
+        stdin: Stdio,
+        stdout: Stdio,
+    ) -> io::Result<Child<P::Started>> {
+        let Some(program) = argv.first() else {
+            return Err(io::Error::from(ErrorKind::InvalidInput));
+        };
+        let mut command = Command::new(self.alloc, program.as_str())?;
+        for word in &argv[1..] {
+            command.arg(word.as_str())?;
+        }
+        let stderr = match self.errors {
+            Errors::Shared => Stdio::inherit(),
+            Errors::Dropped => Stdio::null(),
+        };
+        command
+            .stdin(stdin)
+            .stdout(stdout)
+            .stderr(stderr)
+            .spawn(&self.rt)
     }
-    command
-        .stdin(stdin)
-        .stdout(stdout)
-        .stderr(Stdio::inherit())
-        .spawn(rt)
 }
 
 /// The end of a child that was not started, or whose status could not be had.
@@ -62,6 +84,8 @@ pub fn wait_for<S: OpenProcess>(child: &mut Child<S>) -> RunExit
 /// Ends a child that is of no more use, and waits for it.
 pub fn put_down<S: OpenProcess>(child: &mut Child<S>) {
     let _ = child.kill();
+    // A child that may not be killed, as one of another user, ends once nobody reads what it writes.
+    drop(child.stdout.take());
     let _ = child.wait();
 }
 
@@ -79,29 +103,32 @@ fn listen<S: OpenProcess>(alloc: Global, child: &mut Child<S>, out: &mut Vec<u8>
     }
 }
 
-/// Runs a program to its end.
-pub fn run_to_end<P: Processes>(
-    rt: &P,
-    alloc: Global,
-    argv: &[String],
-    out: &mut Vec<u8>,
-) -> RunExit
+/// Runs a child that was started to its end.
+fn run_started<S: OpenProcess>(alloc: Global, child: &mut Child<S>, out: &mut Vec<u8>) -> RunExit
     ensures within { vec_len out.new ≤ LISTING_LIMIT }
     ensures full { result ≡ RunExit.TooLong → vec_len out.new ≡ LISTING_LIMIT }
+    ensures done { result ≡ RunExit.Done → EndedWell (child_status child.new) }
 {
-    let mut child = match start(rt, alloc, argv, Stdio::null(), Stdio::piped()) {
-        Ok(child) => child,
-        Err(fault) => {
-            out.clear();
-            return unended(&fault);
-        }
-    };
-    let exit = match listen(alloc, &mut child, out) {
-        Reading::Whole => return wait_for(&mut child),
+    let exit = match listen(alloc, child, out) {
+        Reading::Whole => return wait_for(child),
         Reading::TooLong => RunExit::TooLong,
         Reading::Failed => RunExit::Failed,
         Reading::NoMemory => RunExit::NoMemory,
     };
-    put_down(&mut child);
+    put_down(child);
     exit
+}
+
+/// Runs a program to its end.
+pub fn run_to_end<P: Processes>(starter: &Starter<P>, argv: &[String], out: &mut Vec<u8>) -> RunExit
+    ensures within { vec_len out.new ≤ LISTING_LIMIT }
+    ensures full { result ≡ RunExit.TooLong → vec_len out.new ≡ LISTING_LIMIT }
+{
+    match starter.start(argv, Stdio::null(), Stdio::piped()) {
+        Ok(mut child) => run_started(starter.alloc, &mut child, out),
+        Err(fault) => {
+            out.clear();
+            unended(&fault)
+        }
+    }
 }

@@ -1,6 +1,6 @@
 use Rattle.std.proofs.Common.{◌≡◌, ◌≤◌, List, Option, take, false}
 use Rattle.std.specs.List.{count_by}
-use Rattle.zr_world.specs.declared.command.Entry.{Entry}
+use Rattle.zr_command.specs.declared.command.Entry.{Entry}
 use Rattle.zr_permit.specs.Result.{capped, is_done_destroy, is_failed_destroy}
 use Rattle.zr_permit.specs.Transcript.{Turn}
 use Rattle.zr_permit.specs.Turned.{Records}

@@ -1,6 +1,6 @@
 use Rattle.std.proofs.Common.{◌≢◌, [], ℕ, sym, subst}
 use Rattle.zr_names.specs.declared.outcome.Outcome.{Outcome}
-use Rattle.zr_world.specs.declared.command.Cmd.TheVariants as cmd
+use Rattle.zr_command.specs.declared.command.Cmd.TheVariants as cmd
 use Rattle.zr_permit.specs.declared.told.Told.TheVariants as told
 use Rattle.zr_permit.specs.Result.{ResultOf}
 use Rattle.zr_permit.proofs.Ending.{ended-result}

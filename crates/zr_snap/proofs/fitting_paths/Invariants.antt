@@ -1,6 +1,6 @@
 use Rattle.std.proofs.Common.{◌≡◌, take}
 use Rattle.std.specs.List.{filter}
-use Rattle.zr_permit.specs.Jobs.{fits_in, job_at, matched}
+use Rattle.zr_jobs.specs.Jobs.{fits_in, job_at, matched}
 use Rattle.zr_snap.proofs.fitting_paths.Given as goal
 
 -- the paths of the rows so far

@@ -1,6 +1,6 @@
 use Rattle.std.proofs.Common.{◌≡◌, ◌≤◌, length, not, take}
 use Rattle.std.specs.List.{filter}
-use Rattle.zr_permit.specs.Jobs.{fits_in, job_at, matched}
+use Rattle.zr_jobs.specs.Jobs.{fits_in, job_at, matched}
 use Rattle.zr_snap.proofs.too_long_count.Given as goal
 
 -- the count of the rows so far

@@ -1,6 +1,6 @@
 use Rattle.std.proofs.Common.{◌≡◌, take}
 use Rattle.std.specs.List.{flat_map}
-use Rattle.zr_permit.specs.Jobs.{job_at, units_at}
+use Rattle.zr_jobs.specs.Jobs.{job_at, units_at}
 use Rattle.zr_snap.proofs.units_on.Given as goal
 
 -- the units of the paths so far

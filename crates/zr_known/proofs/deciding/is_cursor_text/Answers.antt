@@ -1,7 +1,7 @@
 use Rattle.std.proofs.Common.{rules, ap, ◌∙◌}
 use Rattle.std.proofs.lemmas.Bool.Decides.{Decides-at}
 use Rattle.zr_names.specs.declared.marks.MarkKind.{MarkKind}
-use Rattle.zr_plan.specs.Plan.{is_cursor}
+use Rattle.zr_command.specs.Kinds.{is_cursor}
 use Rattle.zr_known.proofs.Decisions.{cursor-decides}
 use Rattle.zr_known.proofs.deciding.is_cursor_text.Goals as goal
 

@@ -1,5 +1,5 @@
 use Rattle.std.proofs.Common.{◌≡◌, ◌++◌, drop, filter}
-use Rattle.zr_plan.specs.Plan.{is_snap}
+use Rattle.zr_command.specs.Kinds.{is_snap}
 use Rattle.zr_known.proofs.sending.push_snaps.Given as goal
 
 -- the snapshots so far, and those of the rows that are left, are what was there and those of all rows

@@ -1,6 +1,6 @@
 use Rattle.std.proofs.Common.{rules, not}
 use Rattle.std.proofs.lemmas.Fn.{filter_same}
-use Rattle.zr_world.specs.declared.version.VersionName.TheVariants.{Mark}
+use Rattle.zr_command.specs.declared.version.VersionName.TheVariants.{Mark}
 use Rattle.zr_known.specs.Known.{is_row_of}
 use Rattle.zr_known.proofs.updates.retain_others.Goals as goal
 

@@ -2,8 +2,8 @@ use Rattle.std.proofs.Common.{◌≡◌, ap, subst, rules, IfErr, List, IsPermut
 use Rattle.std.proofs.lemmas.List.Sorted.{IsPermutation-sym}
 use Rattle.zr_listing.specs.Columns.{full_name, IsVersionLine}
 use Rattle.zr_listing.specs.Lines.{IsBadAt, NamesDiffer}
-use Rattle.zr_world.specs.Pools.{IsVersionList}
-use Rattle.zr_world.specs.declared.version.VersionRow.{VersionRow}
+use Rattle.zr_command.specs.Listings.{IsVersionList}
+use Rattle.zr_command.specs.declared.version.VersionRow.{VersionRow}
 use Rattle.zr_listing.proofs.Exact.{garbled-none, lines-one}
 use Rattle.zr_listing.proofs.Rows.{IsVersionLine-one, full_name-one}
 use Rattle.zr_listing.proofs.Ordered.{version-list-one}

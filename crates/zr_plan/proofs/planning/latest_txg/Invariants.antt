@@ -1,5 +1,5 @@
 use Rattle.std.proofs.Common.{◌≡◌, ◌&&◌, drop, nat_lt}
-use Rattle.zr_world.specs.declared.version.VersionRow.{VersionRow}
+use Rattle.zr_command.specs.declared.version.VersionRow.{VersionRow}
 use Rattle.zr_plan.specs.Plan.{is_after_snaps, is_later}
 use Rattle.zr_plan.proofs.planning.latest_txg.Given as goal
 

@@ -1,6 +1,6 @@
 use Rattle.std.proofs.Common.{◌∙◌, ap}
 use Rattle.std.proofs.Common.{List, ℕ}
-use Rattle.zr_world.specs.declared.command.Cmd.TheVariants as cmd
+use Rattle.zr_command.specs.declared.command.Cmd.TheVariants as cmd
 use Rattle.zr_replicate.specs.Listing.{path_at}
 use Rattle.zr_replicate.proofs.Listed.{has-asked, tells-as}
 use Rattle.zr_replicate.proofs.Lists.{on-ok}

@@ -1,5 +1,5 @@
 use Rattle.std.proofs.Common.{refl}
-use Rattle.zr_world.specs.declared.command.Cmd.TheVariants as cmd
+use Rattle.zr_command.specs.declared.command.Cmd.TheVariants as cmd
 use Rattle.zr_replicate.proofs.Listed.{listed-target, tells-as}
 use Rattle.zr_replicate.proofs.Lists.{on-ok}
 use Rattle.zr_replicate.proofs.listing.list_target.Goals as goal

@@ -1,5 +1,5 @@
 use Rattle.std.proofs.Common.{◌∙◌, ap, sym, subst, List, ℕ, not, find}
-use Rattle.zr_world.specs.Lookup.{same_text}
+use Rattle.zr_command.specs.Names.{same_text}
 use Rattle.zr_replicate.specs.Settling.{IsOtherName}
 use Rattle.zr_replicate.proofs.Marking.{no-other-name, other-name}
 use Rattle.zr_replicate.proofs.settling.other_last.Goals as goal

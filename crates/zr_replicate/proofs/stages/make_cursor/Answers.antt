@@ -1,7 +1,7 @@
 use Rattle.std.proofs.Common.{◌∙◌, ap}
-use Rattle.zr_world.specs.declared.command.Answer.TheVariants.{Done}
-use Rattle.zr_world.specs.declared.command.Cmd.{Cmd}
-use Rattle.zr_world.specs.declared.command.Reply.TheVariants as reply
+use Rattle.zr_command.specs.declared.command.Answer.TheVariants.{Done}
+use Rattle.zr_command.specs.declared.command.Cmd.{Cmd}
+use Rattle.zr_command.specs.declared.command.Reply.TheVariants as reply
 use Rattle.zr_known.specs.declared.known.Known.{Known}
 use Rattle.zr_known.specs.Known.{told_by}
 use Rattle.zr_replicate.proofs.Lists.{on-ok}

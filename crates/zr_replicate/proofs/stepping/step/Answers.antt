@@ -1,5 +1,5 @@
 use Rattle.std.proofs.Common.{sym, subst}
-use Rattle.zr_world.specs.declared.version.VersionName.{VersionName}
+use Rattle.zr_command.specs.declared.version.VersionName.{VersionName}
 use Rattle.zr_known.specs.Replication.{MayHoldStep}
 use Rattle.zr_replicate.specs.declared.settling.Newest.{Newest}
 use Rattle.zr_replicate.specs.Settling.{IsAlone, IsSafe, MaySettle}

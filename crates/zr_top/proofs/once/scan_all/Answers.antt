@@ -26,7 +26,7 @@ loop-job-preserved g c =
       len = search rules;
       room = search rules;
       found = subst Due (sym found_is) (All-append (All (IsDueUnit jobs)) old (units ∷ []) inv.found (All-cons (All (IsDueUnit jobs)) units [] scan.units (All-nil (All (IsDueUnit jobs)))));
-      ran = subst Ran (sym found_is) (scanned-more jobs c.args.moment c.loop-job.job _ _ _ _ _ _ _ _ old units inside inv.ran scan.ran c.count.ensures);
+      ran = subst Ran (sym found_is) (scanned-more jobs c.args.moment c.loop-job.job _ _ _ _ _ _ _ _ old units inside inv.ran scan.ran c.next_run.ensures c.count.ensures);
       later = omega (arith, inv.later, scan.later);
       rose =
           rose-then c.args.tally.now.totals c.loop-job.tally.totals c.count.new.self.totals _ (faults c.loop-job.z) _ inv.later scan.later inv.rose (counted-rose c.run_scan-outcome.result.0 c.loop-job.tally.totals _ _ _ c.count.ensures scan.fault_rose);

@@ -1,6 +1,6 @@
 use Rattle.std.proofs.Common.{rules, subst}
 use Rattle.zr_names.specs.declared.unit.Unit.{Unit}
-use Rattle.zr_permit.specs.declared.job.JobSet.{JobSet}
+use Rattle.zr_jobs.specs.declared.job.JobSet.{JobSet}
 use Rattle.zr_permit.specs.Transcript.{Legal}
 use Rattle.zr_top.specs.Due.{scan_of, ScanRan}
 use Rattle.zr_top.proofs.Scanned.{scan-due, scan-ran}

@@ -1,6 +1,16 @@
+use Rattle.std.proofs.Common.{inl}
+use Rattle.zr_top.proofs.Recording.{bytes-ran, no-jobs-unrun}
 use Rattle.zr_top.proofs.Refusing.{read-not-refused}
 use Rattle.zr_top.proofs.top.run_file.Goals as goal
 
 pub returns-in-Ok-clause-refused : goal.returns-in-Ok-clause-refused
 returns-in-Ok-clause-refused g c = λ refused.
     absurd (read-not-refused c.args.bytes.now c.in-Ok.jobs c.in-Ok.ensures refused)
+
+pub returns-in-Ok-clause-ran : goal.returns-in-Ok-clause-ran
+returns-in-Ok-clause-ran g c = λ file.
+    bytes-ran file c.args.bytes.now c.in-Ok.jobs _ _ _ _ _ _ c.in-Ok.ensures (c.run_jobs.ensures.ran file)
+
+pub returns-in-Err-clause-ran : goal.returns-in-Err-clause-ran
+returns-in-Err-clause-ran g c = λ file.
+    inl (no-jobs-unrun file _ _ _ _ c.in-Err.fault c.refuse.ensures.unrun c.refuse.ensures.front c.refuse.ensures.silent)

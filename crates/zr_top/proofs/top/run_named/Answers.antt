@@ -2,7 +2,7 @@ use Rattle.std.proofs.Common.{◌∙◌, ℕ, List, inl, subst, sym}
 use Rattle.zr_top.specs.Records.{RefusalPrinted}
 use Rattle.zr_top.specs.Status.{IsRefused}
 use Rattle.zr_top.proofs.Refusing.{unread, unread-not-refused}
-use Rattle.zr_top.proofs.Recording.{ran-file, unread-unrun}
+use Rattle.zr_top.proofs.Recording.{idle-short, ran-file, unread-unrun}
 use Rattle.zr_top.proofs.top.run_named.Goals as goal
 
 pub returns-in-Ok-clause-refusal_printed : goal.returns-in-Ok-clause-refusal_printed
@@ -34,7 +34,10 @@ returns-in-Err-Failed-clause-refused_only g c = λ is whole there.
 
 pub returns-in-Ok-clause-ran : goal.returns-in-Ok-clause-ran
 returns-in-Ok-clause-ran g c =
-    ran-file _ _ _ _ _ _ _ _ _ c.as_slice.ensures.value c.in-Ok.ensures.bytes c.run_file.ensures.ran
+    ran-file _ _ _ _ _ _ _ _ _ _ c.as_slice.ensures.value c.in-Ok.ensures.bytes (c.run_file.ensures.ran _)
 
 pub returns-in-Err-Failed-clause-ran : goal.returns-in-Err-Failed-clause-ran
-returns-in-Err-Failed-clause-ran g c = unread-unrun _ _ _ _ _ _ c.unreadable.ensures.printed
+returns-in-Err-Failed-clause-ran g c = unread-unrun _ _ _ _ _ _ _ c.unreadable.ensures.printed c.unreadable.ensures.front
+
+pub returns-clause-ran : goal.returns-clause-ran
+returns-clause-ran g c = inl (idle-short c.args.file.now _ _)

@@ -1,8 +1,9 @@
-use Rattle.std.proofs.Common.{◌∙◌, ◌∷◌, ◌++◌, [], ℕ, ap, refl, subst, sym}
+use Rattle.std.proofs.Common.{◌∙◌, ◌∷◌, ◌++◌, [], ℕ, ap, inl, inr, refl, subst, sym}
 use Rattle.std.specs.Io.KnownBytes.{append_known}
 use Rattle.std.specs.List.{Contains}
 use Rattle.std.specs.Prelude.{codes}
 use Rattle.zr_top.specs.Records.{is_silent}
+use Rattle.zr_top.specs.Status.{is_idle}
 use Rattle.zr_top.specs.declared.status.Status.TheVariants as status
 use Rattle.zr_top.proofs.Promises.{at-file, conflict-code, fault-code, garbled-code, no-command, ran-cause, ran-complete, ran-honest, unread-code, unwritable-code, usage-caused, usage-code}
 use Rattle.zr_top.proofs.Refusing.{job_file-code, read-not-refused, refused-codes, same-file}
@@ -26,17 +27,17 @@ returns-in-Some-clause-kept g c =
       ran = λ file named.
           ran-named content _ file _ _ _ _ _ _ _ (same-file _ _ file c.in-Some.ensures named) c.code.ensures run.ran;
       honest = λ file named.
-          ran-honest _ _ _ _ _ _ _ (at-file content _ file _ _ _ _ _ _ (same-file _ _ file c.in-Some.ensures named) run.ran);
+          ran-honest _ _ _ _ _ _ _ _ (at-file content _ file _ _ _ _ _ _ (same-file _ _ file c.in-Some.ensures named) run.ran);
       garbled = λ six file named.
-          ran-cause _ _ _ _ _ _ _ status.Garbled (at-file content _ file _ _ _ _ _ _ (same-file _ _ file c.in-Some.ensures named) run.ran) (garbled-code _ (sym c.code.ensures ∙ six)) refl;
+          ran-cause _ _ _ _ _ _ _ _ status.Garbled (at-file content _ file _ _ _ _ _ _ (same-file _ _ file c.in-Some.ensures named) run.ran) (garbled-code _ (sym c.code.ensures ∙ six)) refl;
       failed = λ five file named.
-          ran-cause _ _ _ _ _ _ _ status.ChildFault (at-file content _ file _ _ _ _ _ _ (same-file _ _ file c.in-Some.ensures named) run.ran) (fault-code _ (sym c.code.ensures ∙ five)) refl;
+          ran-cause _ _ _ _ _ _ _ _ status.ChildFault (at-file content _ file _ _ _ _ _ _ (same-file _ _ file c.in-Some.ensures named) run.ran) (fault-code _ (sym c.code.ensures ∙ five)) refl;
       failed_rose = λ five. run.failed (fault-code _ (sym c.code.ensures ∙ five));
       too_long = λ four file named.
-          ran-cause _ _ _ _ _ _ _ status.Conflict (at-file content _ file _ _ _ _ _ _ (same-file _ _ file c.in-Some.ensures named) run.ran) (conflict-code _ (sym c.code.ensures ∙ four)) refl;
+          ran-cause _ _ _ _ _ _ _ _ status.Conflict (at-file content _ file _ _ _ _ _ _ (same-file _ _ file c.in-Some.ensures named) run.ran) (conflict-code _ (sym c.code.ensures ∙ four)) refl;
       complete = λ file whole jobs finds reads sound.
           let at = same-file _ _ file c.in-Some.ensures finds.named in
-          ran-complete _ _ _ _ _ _ _ _ c.code.ensures (at-file content _ file _ _ _ _ _ _ at run.ran) (record {
+          ran-complete _ _ _ _ _ _ _ _ _ c.code.ensures (at-file content _ file _ _ _ _ _ _ at run.ran) (record {
             no_usage = run.no_usage;
             accepted = λ is. read-not-refused _ jobs reads (run.refused_only is whole (ap content at ∙ finds.there));
             readable = λ is. sound.files (run.unreadable is).0;
@@ -44,6 +45,7 @@ returns-in-Some-clause-kept g c =
             no_fault = λ is. sound.children (run.failed is);
           });
       usage_printed = λ two. absurd (run.no_usage (usage-code _ (sym c.code.ensures ∙ two)));
+      usage_front = λ none. absurd (no-command _ _ none (sym c.in-Some.ensures));
       refusal_printed = λ three file whole finds.
           run.refusal_printed (job_file-code c.run_named.result (sym c.code.ensures ∙ three)) whole
           (ap content (same-file _ _ file c.in-Some.ensures finds.named) ∙ finds.there);
@@ -75,8 +77,19 @@ returns-in-None-clause-kept g c =
       too_long = λ four file named. absurd (no-command _ file none named);
       complete = λ file whole jobs finds reads sound. absurd (no-command _ file none finds.named);
       usage_printed = λ two. c.print.ensures.wrote (ap is_silent (usage-code c.print.result (sym c.code-in-None.ensures ∙ two)));
+      usage_front = λ no_file. c.print.ensures.front;
       refusal_printed = λ three file whole finds. absurd (no-command _ file none finds.named);
       unread_printed = λ seven file named. absurd (no-command _ file none named);
       unreadable = λ seven. absurd (caused.1 (sym c.code-in-None.ensures ∙ seven));
       unwritable = λ eight. c.print.ensures.cause (unwritable-code c.print.result (sym c.code-in-None.ensures ∙ eight));
     }
+
+pub returns-in-Some-clause-idle : goal.returns-in-Some-clause-idle
+returns-in-Some-clause-idle g c = λ idle.
+    c.run_named.ensures.idle (elim idle [
+      | inl two ↦ ap is_idle (usage-code c.run_named.result (sym c.code.ensures ∙ two))
+      | inr rest ↦ elim rest [
+        | inl three ↦ ap is_idle (job_file-code c.run_named.result (sym c.code.ensures ∙ three))
+        | inr seven ↦ ap is_idle (unread-code c.run_named.result (sym c.code.ensures ∙ seven))
+      ]
+    ])

@@ -1,5 +1,5 @@
 use Rattle.std.proofs.Common.{◌∙◌, sym}
-use Rattle.zr_world.specs.declared.version.VersionName.TheVariants.{Snap}
+use Rattle.zr_command.specs.declared.version.VersionName.TheVariants.{Snap}
 use Rattle.zr_world.specs.Effect.{with_tags}
 use Rattle.zr_world.specs.Lookup.{is_at}
 use Rattle.zr_world.proofs.Changing.{first_changed-none, first_changed-position}

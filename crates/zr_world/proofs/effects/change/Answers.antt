@@ -1,6 +1,6 @@
 use Rattle.std.proofs.Common.{◌≡◌, sym, subst}
 use Rattle.std.specs.Result.{OnOk}
-use Rattle.zr_world.specs.declared.command.Cmd.{Cmd}
+use Rattle.zr_command.specs.declared.command.Cmd.{Cmd}
 use Rattle.zr_world.specs.Effect.{after_since}
 use Rattle.zr_world.proofs.effects.change.Goals as goal
 

@@ -1,7 +1,7 @@
 use Rattle.std.proofs.Common.{rules, not}
 use Rattle.std.proofs.lemmas.Fn.{filter_same}
 use Rattle.zr_names.specs.Marks.{tag_text}
-use Rattle.zr_world.specs.Lookup.{same_text}
+use Rattle.zr_command.specs.Names.{same_text}
 use Rattle.zr_world.proofs.effects.retain_others.Goals as goal
 
 pub returns : goal.returns

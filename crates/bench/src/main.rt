@@ -1,0 +1,32 @@
+//! What the scripts in bench/ time: one program with a word for each benchmark, which reads standard input.
+#![tactic(auto)]
+
+mod ends;
+mod listing;
+mod relay;
+mod schedule;
+
+use std::process::ExitCode;
+use std::{env, io};
+
+const USAGE: &str = "usage: bench relay|pipe|listing|schedule";
+
+/// Runs the benchmark of the first word, and returns the program's status.
+fn run(rt: &HostRuntime) -> io::Result<u8> {
+    let word = env::args(rt)?.nth(1);
+    match word.as_ref().map(|word| word.as_str()) {
+        Some("relay") => relay::relay_memory(rt)?,
+        Some("pipe") => relay::relay_pipe(rt)?,
+        Some("listing") => listing::read_listing(rt)?,
+        Some("schedule") => schedule::find_minutes(rt)?,
+        _ => {
+            println!(rt; "{USAGE}")?;
+            return Ok(2);
+        }
+    }
+    Ok(0)
+}
+
+fn main(rt: HostRuntime) -> ExitCode {
+    ExitCode::from(run(&rt).unwrap_or(1))
+}

@@ -1,0 +1,4 @@
+pub mod Kinds
+pub mod Listings
+pub mod Names
+pub mod Plain

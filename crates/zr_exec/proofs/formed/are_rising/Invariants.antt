@@ -1,9 +1,0 @@
-use Rattle.std.proofs.Common.{◌≡◌, true}
-use Rattle.zr_world.specs.Pools.{is_below}
-use Rattle.zr_world.specs.declared.pools.Dataset.{Dataset}
-use Rattle.zr_exec.proofs.Pairs.{PairsBelow}
-use Rattle.zr_exec.proofs.formed.are_rising.Given as goal
-
--- each one so far stands so to all that follow
-abbrev pub invariant-loop-place : goal.invariant-loop-place
-invariant-loop-place l = PairsBelow (λ (a : Dataset) (b : Dataset). is_below a.path b.path ≡ true) l.sets l.place

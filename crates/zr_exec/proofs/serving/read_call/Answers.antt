@@ -1,6 +1,0 @@
-use Rattle.std.proofs.Common.{sym}
-use Rattle.zr_exec.proofs.Commands.{unread}
-use Rattle.zr_exec.proofs.serving.read_call.Goals as goal
-
-pub returns-in-Err : goal.returns-in-Err
-returns-in-Err c = λ other spelled. unread _ c.in-Err.fault other (sym c.if-is_unspelled.ensures) c.in-Err.ensures spelled

@@ -1,8 +1,0 @@
-use super::*;
-
-mod children;
-mod fixture;
-mod formed;
-mod print;
-mod running;
-mod transfers;

@@ -1,2 +1,0 @@
-mod knowing;
-mod turns;

@@ -1,0 +1,206 @@
+ghost use Rattle.std.specs.Prelude.{◌≡◌, ◌≢◌, None, true, false, IfOk, MatchOption, is_some, map, string_bytes};
+ghost use Rattle.zr_cmd.specs.declared.forms.Call.TheVariants as call;
+ghost use Rattle.zr_exec.specs.Exits.{HasPipeCause};
+ghost use Rattle.zr_model.specs.Piping.{AreEnds, Finds};
+ghost use Rattle.zr_exec.specs.Serving.{DoesPipe, DoesTransfer, PipeGives};
+ghost use Rattle.zr_model.specs.Ends.{IsVain};
+ghost use Rattle.zr_world.specs.Lookup.{stands};
+ghost use Rattle.zr_world.specs.Pools.{IsWellFormed};
+ghost use Rattle.zr_world.specs.Reasons.{refusal};
+ghost use Rattle.zr_command.specs.declared.command.Cmd.TheVariants as cmd;
+ghost use Rattle.zr_command.specs.declared.version.VersionName.TheVariants.{Mark, Snap};
+
+use crate::serving::read_call;
+use std::alloc::Global;
+use zr_cmd::Call;
+use zr_command::{Answer, Base, Cmd, Transfer};
+use zr_exec::PipeExit;
+use zr_names::{Guid, MarkName, NoMemory, Path, SnapName};
+use zr_world::{Extent, Pools, act};
+
+/// Counts a pipe that failed.
+fn failed(faults: &mut u64) -> PipeExit
+    ensures cause { HasPipeCause faults.old faults.new result }
+    ensures same { result ≡ PipeExit.Failed }
+{
+    *faults = faults.saturating_add(1);
+    PipeExit::Failed
+}
+
+/// The guid of a snapshot, if it is there.
+fn snap_guid(pools: &Pools, path: &Path, name: &SnapName) -> Option<Guid>
+    ensures { MatchOption result ((guid : Guid) → stands pools.entry.now path.now (Snap name.now) guid ≡ false)
+        (λ guid. stands pools.entry.now path.now (Snap name.now) guid ≡ true) }
+{
+    Some(pools.snap(path, name)?.guid)
+}
+
+/// The guid of a bookmark, if it is there.
+fn mark_guid(pools: &Pools, path: &Path, name: &MarkName) -> Option<Guid>
+    ensures { MatchOption result ((guid : Guid) → stands pools.entry.now path.now (Mark name.now) guid ≡ false)
+        (λ guid. stands pools.entry.now path.now (Mark name.now) guid ≡ true) }
+{
+    Some(pools.mark(path, name)?.guid)
+}
+
+/// The whole transfer of a snapshot, if that is there.
+fn full_transfer(
+    pools: &Pools,
+    source: Path,
+    to: SnapName,
+    target: Path,
+    force: bool,
+) -> Option<Transfer>
+    ensures { Finds (AreEnds pools.entry.now (call.SendFull source to) (call.Receive target force)) result }
+{
+    let guid = snap_guid(pools, &source, &to)?;
+    Some(Transfer {
+        source,
+        to,
+        guid,
+        base: Base::Full,
+        target,
+        force,
+    })
+}
+
+/// The transfer of a snapshot from a bookmark, if both are there.
+fn increment(
+    pools: &Pools,
+    source: Path,
+    mark: MarkName,
+    to: SnapName,
+    target: Path,
+    force: bool,
+) -> Option<Transfer>
+    ensures { Finds (AreEnds pools.entry.now (call.SendFrom source mark to) (call.Receive target force)) result }
+{
+    let from = mark_guid(pools, &source, &mark)?;
+    let guid = snap_guid(pools, &source, &to)?;
+    Some(Transfer {
+        source,
+        to,
+        guid,
+        base: Base::From(mark, from),
+        target,
+        force,
+    })
+}
+
+/// The transfer onto a target that a call sends. It names no guids, so these are looked up on the source.
+#[tactic(auto, using(crate::proofs::Calls::one_sends_none, crate::proofs::Calls::receive_sends_none))]
+fn transfer_onto(pools: &Pools, send: Call, target: Path, force: bool) -> Option<Transfer>
+    ensures { Finds (AreEnds pools.entry.now send (call.Receive target force)) result }
+{
+    match send {
+        Call::SendFull(source, to) => full_transfer(pools, source, to, target, force),
+        Call::SendFrom(source, mark, to) => increment(pools, source, mark, to, target, force),
+        // Let go by hand: at the end of the arm each variant would be proved again.
+        Call::One(cmd) => {
+            drop(cmd);
+            drop(target);
+            None
+        }
+        Call::Receive(path, _) => {
+            drop(path);
+            drop(target);
+            None
+        }
+    }
+}
+
+/// The transfer whose ends two calls are.
+fn transfer_of(pools: &Pools, send: Call, receive: Call) -> Option<Transfer>
+    ensures { Finds (AreEnds pools.entry.now send receive) result }
+{
+    match receive {
+        Call::Receive(target, force) => transfer_onto(pools, send, target, force),
+        // Let go by hand: at the end of the arm each variant would be proved again.
+        other => {
+            drop(other);
+            drop(send);
+            None
+        }
+    }
+}
+
+/// The transfer that the words of a pipe give on these pools.
+#[tactic(auto, using(crate::proofs::Ends::found_gives, crate::proofs::Ends::unreceived, crate::proofs::Ends::unsent))]
+fn read_transfer(
+    alloc: Global,
+    pools: &Pools,
+    send: &[String],
+    receive: &[String],
+) -> Result<Option<Transfer>, NoMemory>
+    ensures { IfOk result
+        (Finds (PipeGives (map string_bytes send.now) (map string_bytes receive.now) pools.entry.now)) }
+{
+    let Some(send) = read_call(alloc, send)? else {
+        return Ok(None);
+    };
+    match read_call(alloc, receive) {
+        Ok(Some(receive)) => Ok(transfer_of(pools, send, receive)),
+        // Let go by hand: at the end of the arm each variant would be proved again.
+        Ok(None) => {
+            drop(send);
+            Ok(None)
+        }
+        Err(NoMemory) => {
+            drop(send);
+            Err(NoMemory)
+        }
+    }
+}
+
+/// Does a transfer on these pools, or fails it at a planned extent.
+fn do_transfer(
+    alloc: Global,
+    pools: &mut Pools,
+    faults: &mut u64,
+    transfer: Transfer,
+    plan: Option<Extent>,
+) -> PipeExit
+    requires { IsWellFormed pools.old }
+    ensures cause { HasPipeCause faults.old faults.new result }
+    ensures well_formed { IsWellFormed pools.new }
+    ensures does { DoesTransfer transfer pools.old pools.new result }
+    ensures planned { is_some plan ≡ true → result ≢ PipeExit.Done }
+    ensures refused { plan ≡ None → result ≡ PipeExit.Failed →
+        is_some (refusal pools.old (cmd.Transfer transfer)) ≡ true }
+{
+    let cmd = Cmd::Transfer(transfer);
+    let answer = act(alloc, pools, faults, &cmd, plan);
+    // Let go here: at each exit below it would be proved again.
+    drop(cmd);
+    match answer {
+        Answer::Done(_) => PipeExit::Done,
+        Answer::Failed => PipeExit::Failed,
+        Answer::Garbled(_) => unreachable!(),
+        Answer::NoMemory => PipeExit::NoMemory,
+    }
+}
+
+/// Serves the words of a pipe on these pools, or fails it at a planned extent. Words that are no transfer's, or those of
+/// one whose source is not there, do nothing.
+pub fn serve_pipe(
+    alloc: Global,
+    pools: &mut Pools,
+    faults: &mut u64,
+    send: &[String],
+    receive: &[String],
+    plan: Option<Extent>,
+) -> PipeExit
+    requires { IsWellFormed pools.old }
+    ensures cause { HasPipeCause faults.old faults.new result }
+    ensures well_formed { IsWellFormed pools.new }
+    ensures does { DoesPipe (map string_bytes send.now) (map string_bytes receive.now) pools.old pools.new result }
+    ensures planned { is_some plan ≡ true → result ≢ PipeExit.Done }
+    ensures refused { plan ≡ None → result ≡ PipeExit.Failed →
+        IsVain (map string_bytes send.now) (map string_bytes receive.now) pools.old }
+{
+    match read_transfer(alloc, pools, send, receive) {
+        Ok(Some(transfer)) => do_transfer(alloc, pools, faults, transfer, plan),
+        Ok(None) => failed(faults),
+        Err(NoMemory) => PipeExit::NoMemory,
+    }
+}

@@ -1,6 +1,0 @@
-mod commands;
-mod fixture;
-mod print;
-mod refusals;
-mod running;
-mod transfers;
