@@ -1,0 +1,142 @@
+//! Commands by their words, and which of the calls of a block are to fail.
+
+use crate::words::{job, mark, number, path, snap, word};
+use std::alloc::Global;
+use std::str::Split;
+use zr_command::{Base, Cmd, Transfer, VersionName};
+use zr_names::{Guid, TagKind};
+use zr_world::{Extent, Planned};
+
+/// `@` and a snapshot's name or `#` and a bookmark's.
+pub fn name_of(alloc: Global, text: &str) -> Option<VersionName> {
+    if let Some(text) = text.strip_prefix('@') {
+        return Some(VersionName::Snap(snap(alloc, text)?));
+    }
+    let text = text.strip_prefix('#')?;
+    Some(VersionName::Mark(mark(alloc, text)?))
+}
+
+fn kind(text: &str) -> Option<TagKind> {
+    match text {
+        "step" => Some(TagKind::Step),
+        "last" => Some(TagKind::Last),
+        _ => None,
+    }
+}
+
+fn versions(alloc: Global, set: &str) -> Option<Cmd> {
+    Some(Cmd::Versions(path(alloc, set)?))
+}
+
+fn holds(alloc: Global, set: &str, name: &str) -> Option<Cmd> {
+    let set = path(alloc, set)?;
+    Some(Cmd::Holds(set, snap(alloc, name)?))
+}
+
+/// The snapshot, the kind of the hold and its job.
+fn hold(alloc: Global, set: &str, words: &mut Split<'_, char>) -> Option<Cmd> {
+    let (name, of, by) = (word(words), kind(word(words))?, word(words));
+    let set = path(alloc, set)?;
+    let name = snap(alloc, name)?;
+    Some(Cmd::Hold(of, job(alloc, by)?, set, name))
+}
+
+fn release(alloc: Global, set: &str, words: &mut Split<'_, char>) -> Option<Cmd> {
+    let (name, of, by) = (word(words), kind(word(words))?, word(words));
+    let set = path(alloc, set)?;
+    let name = snap(alloc, name)?;
+    Some(Cmd::Release(of, job(alloc, by)?, set, name))
+}
+
+/// What the bookmark is of, and its name.
+fn bookmark(alloc: Global, set: &str, of: &str, name: &str) -> Option<Cmd> {
+    let set = path(alloc, set)?;
+    let of = name_of(alloc, of)?;
+    Some(Cmd::Bookmark(set, of, mark(alloc, name)?))
+}
+
+fn destroy(alloc: Global, set: &str, name: &str) -> Option<Cmd> {
+    let set = path(alloc, set)?;
+    match name_of(alloc, name)? {
+        VersionName::Snap(name) => Some(Cmd::DestroySnap(set, name)),
+        VersionName::Mark(name) => Some(Cmd::DestroyMark(set, name)),
+    }
+}
+
+/// What a transfer starts from: `full`, or a bookmark of this guid.
+fn base(alloc: Global, text: &str, guid: Guid) -> Option<Base> {
+    if text == "full" {
+        return Some(Base::Full);
+    }
+    Some(Base::From(mark(alloc, text)?, guid))
+}
+
+/// The guid of the bookmark from which a transfer starts.
+fn base_guid(text: &str, words: &mut Split<'_, char>) -> Option<Guid> {
+    if text == "full" {
+        return Some(Guid(0));
+    }
+    Some(Guid(number(word(words))?))
+}
+
+/// The snapshot and its guid, the base, the target and whether it is forced.
+fn send(alloc: Global, set: &str, words: &mut Split<'_, char>) -> Option<Cmd> {
+    let (to, guid) = (word(words), Guid(number(word(words))?));
+    let start = word(words);
+    let from = base_guid(start, words)?;
+    let (target, force) = (word(words), word(words) == "force");
+    let target = path(alloc, target)?;
+    let source = path(alloc, set)?;
+    let to = snap(alloc, to)?;
+    Some(Cmd::Transfer(Transfer {
+        source,
+        to,
+        guid,
+        base: base(alloc, start, from)?,
+        target,
+        force,
+    }))
+}
+
+/// A command by its words: what it does, the dataset to which it does it, and the rest.
+pub fn command_of(alloc: Global, line: &str) -> Option<Cmd> {
+    let mut words = line.split(' ');
+    let verb = word(&mut words);
+    let set = word(&mut words);
+    match verb {
+        "sets" => Some(Cmd::Sets),
+        "versions" => versions(alloc, set),
+        "holds" => holds(alloc, set, word(&mut words)),
+        "hold" => hold(alloc, set, &mut words),
+        "release" => release(alloc, set, &mut words),
+        "bookmark" => bookmark(alloc, set, word(&mut words), word(&mut words)),
+        "destroy" => destroy(alloc, set, word(&mut words)),
+        "send" => send(alloc, set, &mut words),
+        _ => None,
+    }
+}
+
+/// The extent that stands before a call, which is to fail at it, and the call.
+pub fn extent_of(call: &str) -> (Option<Extent>, &str) {
+    match call.split_once(' ') {
+        Some(("none", call)) => (Some(Extent::None), call),
+        Some(("part", call)) => (Some(Extent::Part), call),
+        Some(("whole", call)) => (Some(Extent::Whole), call),
+        _ => (None, call),
+    }
+}
+
+/// The calls of a block that are to fail. Its calls are the lines that begin with two blanks.
+pub fn failing_of(alloc: Global, block: &str) -> Option<Vec<Planned>> {
+    let mut failing = Vec::new(alloc);
+    let mut call = 0_u64;
+    for line in block.lines() {
+        if let Some(asked) = line.strip_prefix("  ") {
+            call = call.saturating_add(1);
+            if let (Some(extent), _) = extent_of(asked) {
+                failing.push(Planned { call, extent }).ok()?;
+            }
+        }
+    }
+    Some(failing)
+}

@@ -1,0 +1,310 @@
+//! The words of the calls of `zfs`: which call they are read as, and that its command is written in the same words.
+//! A transfer is written in the words of two calls.
+
+use super::lines::{Unread, ask_of, check, mark, path, placed, shown, snap, text};
+use std::alloc::Global;
+use zr_cmd::{Argv, ArgvFault, Call, Words, argv_of, read_argv};
+use zr_command::{Base, Cmd, Transfer, VersionName};
+use zr_names::{Guid, JobName, MarkName, Path, SnapName, TagKind};
+
+const CASES: &str = "\
+# words of listings
+list -H -p -t filesystem,volume -o name,zrepl:placeholder,receive_resume_token => sets
+list -H -p -d 1 -t snapshot,bookmark -s createtxg -o name,guid,createtxg,creation,userrefs tank/home => versions tank/home
+holds -H tank/home@z_1 => holds tank/home @z_1
+# words of a hold and a release
+hold zrepl_STEP_J_nightly tank/home@z_1 => hold step nightly tank/home @z_1
+release zrepl_last_received_J_nightly tank/home@z_1 => release last nightly tank/home @z_1
+# words of destroys
+destroy tank/home@z_1 => destroy tank/home @z_1
+destroy tank/home#m => destroy tank/home #m
+# words of bookmarks
+bookmark tank/home@s tank/home#n => bookmark tank/home @s #n
+bookmark tank/home#m tank/home#n => bookmark tank/home #m #n
+# words of a whole transfer, and of one from a bookmark
+transfer whole => /sbin/zfs send tank/home@z_2 | /sbin/zfs receive -s -u -F backup/home
+transfer m => /sbin/zfs send -i tank/home#m tank/home@z_2 | /sbin/zfs receive -s -u backup/home
+# the end that sends the whole is read, and the end that sends an increment
+send tank/home@s => send tank/home @s
+send -i tank/home#m tank/home@s => send tank/home #m @s
+# the receiving end is read
+receive -s -u tank/home => receive tank/home
+receive -s -u -F tank/home => receive by force tank/home
+# a path may be spelled as an option is: with one word left it is the path
+receive -s -u -F => receive -F
+receive -s -u -F -F => receive by force -F
+# a job's name of 64 bytes in a tag, and one of 65
+hold zrepl_STEP_J_abcdefghijklmnopqrstuvwxyz012345abcdefghijklmnopqrstuvwxyz012345 tank/home@z_1 => hold step abcdefghijklmnopqrstuvwxyz012345abcdefghijklmnopqrstuvwxyz012345 tank/home @z_1
+hold zrepl_STEP_J_abcdefghijklmnopqrstuvwxyz012345abcdefghijklmnopqrstuvwxyz0123456 tank@s => bad word 1
+# first words of no call, and no words
+(empty) => unknown command
+get => unknown command
+frob => unknown command
+LIST -H => unknown command
+lis => unknown command
+-i tank#m tank@s => unknown command
+(none) => unknown command
+# words that are nearly a call, and how many of them begin one
+list => bad word 1
+list -h => bad word 1
+list -H => bad word 2
+list -H -p => bad word 3
+list -H -p -r => bad word 3
+list -H -p -t snapshot => bad word 4
+list -H -p -d 2 => bad word 4
+list -H -p -d 1 -t snapshot => bad word 6
+list -H -p -t filesystem,volume -o => bad word 6
+list -H -p -t filesystem,volume -o name => bad word 6
+holds => bad word 1
+holds tank@s => bad word 1
+holds -H => bad word 2
+holds -H tank#m => bad word 2
+holds -H tank@s tank@t => bad word 3
+destroy => bad word 1
+destroy (empty) => bad word 1
+destroy tank/a => bad word 1
+destroy tank@ => bad word 1
+destroy @s => bad word 1
+destroy tank@s@t => bad word 1
+destroy tank#m@s => bad word 1
+destroy tank@a tank@b => bad word 2
+destroy tank#m x => bad word 2
+hold => bad word 1
+hold x tank@s => bad word 1
+hold zrepl_STEP_J_ tank@s => bad word 1
+hold zrepl_STEP_J_a/b tank@s => bad word 1
+hold zrepl_CURSOR_J_a tank@s => bad word 1
+hold zrepl_STEP_J_a => bad word 2
+hold zrepl_STEP_J_a tank => bad word 2
+hold zrepl_STEP_J_a tank@s x => bad word 3
+release tank@s => bad word 1
+release zrepl_last_received_J_a tank#m => bad word 2
+bookmark => bad word 1
+bookmark a => bad word 1
+bookmark a@s => bad word 2
+bookmark a@s b#m => bad word 2
+bookmark a#m b#n => bad word 2
+bookmark a@s a@t => bad word 2
+bookmark a/b@s a#m => bad word 2
+bookmark a@s a#m x => bad word 3
+send => bad word 1
+send a => bad word 1
+send a#m => bad word 1
+send a@s b@s => bad word 2
+send -i => bad word 2
+send -i a@r a@s => bad word 2
+send -i a#m => bad word 3
+send -i a#m b@s => bad word 3
+send -i a#m a#n => bad word 3
+send -i a#m a@s x => bad word 4
+receive => bad word 1
+receive -u -s a => bad word 1
+receive -s -u => bad word 3
+receive -s -u a@s => bad word 3
+receive -s -u a b => bad word 4
+receive -s -u -F a//b => bad word 4
+receive -s -u -F a b => bad word 5
+list -H -p -t filesystem,volume -o name,zrepl:placeholder,receive_resume_token tank => bad word 7
+list -H -p -t filesystem,volume -o tank//home => bad word 6
+list -H -p -d 1 -t snapshot,bookmark -s createtxg -o name,guid,createtxg,creation,userrefs => bad word 11
+list -H -p -d 1 -t snapshot,bookmark -s createtxg -o name,guid,createtxg,creation,userrefs tank//home => bad word 11
+list -H -p -d 1 -t snapshot,bookmark -s createtxg -o name,guid,createtxg,creation,userrefs tank/home tank => bad word 12";
+
+/// The words of a line, one blank between them.
+fn words(alloc: Global, line: &str) -> Result<Words, Unread> {
+    let mut words = Words::new(alloc);
+    if line != "(none)" {
+        for word in line.split(' ') {
+            words.push_all(alloc, &[if word == "(empty)" { "" } else { word }])?;
+        }
+    }
+    Ok(words)
+}
+
+fn push_words(out: &mut String, words: &Words) -> Result<(), Unread> {
+    let mut front = "";
+    for word in words.as_slice() {
+        out.push_str(front)?;
+        out.push_str(word.as_str())?;
+        front = " ";
+    }
+    Ok(())
+}
+
+fn push_argv(out: &mut String, argv: &Argv) -> Result<(), Unread> {
+    match argv {
+        Argv::One(words) => push_words(out, words),
+        Argv::Pipe(send, receive) => {
+            push_words(out, send)?;
+            out.push_str(" | ")?;
+            push_words(out, receive)
+        }
+    }
+}
+
+/// The words of a command's children.
+fn written(alloc: Global, cmd: &Cmd) -> Result<String, Unread> {
+    let argv = argv_of(alloc, "/sbin/zfs", cmd)?;
+    let mut out = String::new(alloc);
+    push_argv(&mut out, &argv)?;
+    Ok(out)
+}
+
+fn is_written(alloc: Global, cmd: &Cmd, line: &str) -> Result<bool, Unread> {
+    let again = written(alloc, cmd)?;
+    Ok(again.as_str().strip_prefix("/sbin/zfs ") == Some(line))
+}
+
+/// A verb, a dataset and the name of one of its versions.
+fn named(alloc: Global, verb: &str, set: &Path, sign: char, name: &[u8]) -> Result<String, Unread> {
+    let (set, name) = (shown(set.as_bytes()), shown(name));
+    Ok(format!(in alloc; "{verb} {set} {sign}{name}")?)
+}
+
+/// A verb, a dataset and the names of two of its versions.
+fn twice_named(
+    alloc: Global,
+    (verb, set): (&str, &Path),
+    (sign, name): (char, &[u8]),
+    (other_sign, other): (char, &[u8]),
+) -> Result<String, Unread> {
+    let (set, name, other) = (shown(set.as_bytes()), shown(name), shown(other));
+    Ok(format!(in alloc; "{verb} {set} {sign}{name} {other_sign}{other}")?)
+}
+
+/// What is done with the hold of a job on a snapshot.
+fn tagged(
+    alloc: Global,
+    verb: &str,
+    kind: TagKind,
+    job: &JobName,
+    (set, snap): (&Path, &SnapName),
+) -> Result<String, Unread> {
+    let kind = match kind {
+        TagKind::Step => "step",
+        TagKind::Last => "last",
+    };
+    let (job, set) = (shown(job.as_bytes()), shown(set.as_bytes()));
+    Ok(format!(in alloc; "{verb} {kind} {job} {set} @{}", shown(snap.as_bytes()))?)
+}
+
+fn marked(alloc: Global, set: &Path, of: &VersionName, name: &MarkName) -> Result<String, Unread> {
+    let name = ('#', name.as_bytes());
+    match of {
+        VersionName::Snap(of) => {
+            twice_named(alloc, ("bookmark", set), ('@', of.as_bytes()), name)
+        }
+        VersionName::Mark(of) => {
+            twice_named(alloc, ("bookmark", set), ('#', of.as_bytes()), name)
+        }
+    }
+}
+
+/// A command that changes the holds or the bookmarks of a dataset.
+fn change_text(alloc: Global, cmd: &Cmd) -> Result<String, Unread> {
+    match cmd {
+        Cmd::Hold(kind, job, set, snap) => tagged(alloc, "hold", *kind, job, (set, snap)),
+        Cmd::Release(kind, job, set, snap) => tagged(alloc, "release", *kind, job, (set, snap)),
+        Cmd::Bookmark(set, of, name) => marked(alloc, set, of, name),
+        _ => text(alloc, "a transfer"),
+    }
+}
+
+/// A command and its parts, in their order.
+fn cmd_text(alloc: Global, cmd: &Cmd) -> Result<String, Unread> {
+    match cmd {
+        Cmd::Sets => text(alloc, "sets"),
+        Cmd::Versions(set) => Ok(format!(in alloc; "versions {}", shown(set.as_bytes()))?),
+        Cmd::Holds(set, snap) => named(alloc, "holds", set, '@', snap.as_bytes()),
+        Cmd::DestroySnap(set, snap) => named(alloc, "destroy", set, '@', snap.as_bytes()),
+        Cmd::DestroyMark(set, mark) => named(alloc, "destroy", set, '#', mark.as_bytes()),
+        _ => change_text(alloc, cmd),
+    }
+}
+
+/// A command that these words are read as; other words that it is written in are told in its place.
+fn one_text(alloc: Global, cmd: &Cmd, line: &str) -> Result<String, Unread> {
+    if is_written(alloc, cmd, line)? {
+        cmd_text(alloc, cmd)
+    } else {
+        written(alloc, cmd)
+    }
+}
+
+fn call_text(alloc: Global, call: &Call, line: &str) -> Result<String, Unread> {
+    match call {
+        Call::One(cmd) => one_text(alloc, cmd, line),
+        Call::SendFull(set, snap) => named(alloc, "send", set, '@', snap.as_bytes()),
+        Call::SendFrom(set, mark, snap) => {
+            let (from, to) = (('#', mark.as_bytes()), ('@', snap.as_bytes()));
+            twice_named(alloc, ("send", set), from, to)
+        }
+        Call::Receive(set, force) => {
+            let how = if *force { " by force" } else { "" };
+            Ok(format!(in alloc; "receive{how} {}", shown(set.as_bytes()))?)
+        }
+    }
+}
+
+fn read_text(alloc: Global, read: &Result<Call, ArgvFault>, line: &str) -> Result<String, Unread> {
+    match read {
+        Ok(call) => call_text(alloc, call, line),
+        Err(ArgvFault::UnknownCommand) => text(alloc, "unknown command"),
+        Err(ArgvFault::BadWord(count)) => placed(alloc, "bad word", *count),
+        Err(ArgvFault::NoMemory) => Err(Unread),
+    }
+}
+
+/// A transfer of `tank/home@z_2` to `backup/home`.
+fn transfer(alloc: Global, base: Base, force: bool) -> Result<Cmd, Unread> {
+    let source = path(alloc, "tank/home")?;
+    let target = path(alloc, "backup/home")?;
+    Ok(Cmd::Transfer(Transfer {
+        to: snap(alloc, "z_2")?,
+        source,
+        guid: Guid(9),
+        base,
+        target,
+        force,
+    }))
+}
+
+/// The whole is sent by force.
+fn transfer_from(alloc: Global, base: &str) -> Result<Cmd, Unread> {
+    if base == "whole" {
+        return transfer(alloc, Base::Full, true);
+    }
+    transfer(alloc, Base::From(mark(alloc, base)?, Guid(7)), false)
+}
+
+// What is wide is let go by hand: at the end of a scope its parts would be let go in place.
+fn transfer_said(alloc: Global, base: &str) -> Result<String, Unread> {
+    let cmd = transfer_from(alloc, base)?;
+    let said = written(alloc, &cmd);
+    drop(cmd);
+    said
+}
+
+fn call_said(alloc: Global, ask: &str) -> Result<String, Unread> {
+    let words = words(alloc, ask)?;
+    let read = read_argv(alloc, words.as_slice());
+    let said = read_text(alloc, &read, ask);
+    drop(read);
+    said
+}
+
+fn said(alloc: Global, ask: &str) -> Result<String, Unread> {
+    match ask.strip_prefix("transfer ") {
+        Some(base) => transfer_said(alloc, base),
+        None => call_said(alloc, ask),
+    }
+}
+
+#[test]
+fn words_of_calls(rt: HostRuntime) {
+    for line in CASES.lines() {
+        if let Some(ask) = ask_of(line) {
+            check(&rt, line, said(rt.alloc(), ask));
+        }
+    }
+}

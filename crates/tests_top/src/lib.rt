@@ -1,0 +1,5 @@
+//! The tests of the calls that the program makes.
+#![tactic(auto)]
+
+#[cfg(test)]
+mod tests;

@@ -1,0 +1,134 @@
+//! Children that write what they are told to.
+
+use super::{Course, Given, in_line, is, written};
+use std::alloc::Global;
+use std::process::Abort;
+use std::sync::Wait;
+use std::thread::Threads;
+use zr_base::NoMemory;
+use zr_exec::{LISTING_LIMIT, PipeExit, RunExit, Spawn};
+use zr_names::Unit;
+
+/// Whether the first two children end well and what they write, `~` for a tab and `$` for the end of a line; the status and
+/// what is printed.
+const BLOCKS: &str = "\
+faults_and_garbled_listings_end_their_unit: the first child fails, with a good listing or a bad one
+  fails tank~-~-$, then ends tank~-~-$ => status 5 due=1 done=1 coalesced=0 taken=0 fresh=0 steps=0 uptodate=0 conflicts=0 destroyed=0 busy=0 placeholders=0 toolong=0 faults=1 garbled=0 nomemory=0
+  fails bad, then ends tank~-~-$ => status 5 due=1 done=1 coalesced=0 taken=0 fresh=0 steps=0 uptodate=0 conflicts=0 destroyed=0 busy=0 placeholders=0 toolong=0 faults=1 garbled=0 nomemory=0
+
+faults_and_garbled_listings_end_their_unit: the listing of the datasets is garbled: a line too many, and a last line that was cut
+  ends tank~-~-$bad$, then ends tank~-~-$ => status 6 due=1 done=1 coalesced=0 taken=0 fresh=0 steps=0 uptodate=0 conflicts=0 destroyed=0 busy=0 placeholders=0 toolong=0 faults=0 garbled=1 nomemory=0
+  ends tank~-~-$tan, then ends tank~-~-$ => status 6 due=1 done=1 coalesced=0 taken=0 fresh=0 steps=0 uptodate=0 conflicts=0 destroyed=0 busy=0 placeholders=0 toolong=0 faults=0 garbled=1 nomemory=0
+
+faults_and_garbled_listings_end_their_unit: the second child fails
+  ends tank~-~-$, then fails  => status 5 due=2 done=2 coalesced=0 taken=0 fresh=0 steps=0 uptodate=0 conflicts=0 destroyed=0 busy=0 placeholders=0 toolong=0 faults=1 garbled=0 nomemory=0
+
+faults_and_garbled_listings_end_their_unit: the listing of the versions is garbled: a column too few, and a last line that was cut
+  ends tank~-~-$, then ends tank@a~1~1~1$ => status 6 due=2 done=2 coalesced=0 taken=0 fresh=0 steps=0 uptodate=0 conflicts=0 destroyed=0 busy=0 placeholders=0 toolong=0 faults=0 garbled=1 nomemory=0
+  ends tank~-~-$, then ends tank@a~1~1~1~0$tank@b~2~2~2~0 => status 6 due=2 done=2 coalesced=0 taken=0 fresh=0 steps=0 uptodate=0 conflicts=0 destroyed=0 busy=0 placeholders=0 toolong=0 faults=0 garbled=1 nomemory=0";
+
+/// A runner whose children write what they are told to, one after the other, and end well or not. After the last of them each
+/// child fails.
+#[derive(Drop)]
+struct Scripted {
+    script: Vec<Says>,
+    calls: usize,
+    faults: u64,
+}
+
+/// What a child writes, and whether it ends well.
+#[derive(Drop)]
+struct Says {
+    ends_well: bool,
+    text: String,
+}
+
+impl Scripted {
+    /// Whether the next child ends well, and what it writes.
+    fn next(&self) -> (bool, &[u8]) {
+        match self.script.as_slice().get(self.calls) {
+            Some(says) => (says.ends_well, says.text.as_bytes()),
+            None => (false, &[]),
+        }
+    }
+}
+
+impl Spawn for Scripted {
+    ghost use Rattle.std.specs.Prelude.{None};
+
+    ghost faults = { λ s. s.faults };
+
+    ghost told = { λ s. None };
+
+    ghost pools = { λ s. None };
+
+    fn begin(&mut self, _unit: &Unit, _run: u64) -> Result<(), NoMemory> {
+        Ok(())
+    }
+
+    fn run(&mut self, _argv: &[String], out: &mut Vec<u8>) -> RunExit {
+        out.clear();
+        let (ends_well, text) = self.next();
+        if text.len() > LISTING_LIMIT || out.extend_from_slice(text).is_err() {
+            return RunExit::NoMemory;
+        }
+        self.calls = self.calls.saturating_add(1);
+        if ends_well {
+            return RunExit::Done;
+        }
+        self.faults = self.faults.saturating_add(1);
+        RunExit::Nonzero
+    }
+
+    fn pipe(&mut self, _send: &[String], _receive: &[String]) -> PipeExit {
+        self.faults = self.faults.saturating_add(1);
+        PipeExit::Failed
+    }
+}
+
+/// What a child does, by its words.
+fn says_of(alloc: Global, words: &str) -> Option<Says> {
+    let (end, spelled) = words.split_once(' ')?;
+    let mut text = String::new(alloc);
+    for letter in spelled.chars() {
+        let letter = match letter {
+            '~' => '\t',
+            '$' => '\n',
+            _ => letter,
+        };
+        text.push(letter).ok()?;
+    }
+    let ends_well = end == "ends";
+    Some(Says { ends_well, text })
+}
+
+fn script_of(alloc: Global, ask: &str) -> Option<Vec<Scripted>> {
+    let mut script = Vec::new(alloc);
+    for words in ask.split(", then ") {
+        script.push(says_of(alloc, words)?).ok()?;
+    }
+    let child = Scripted {
+        script,
+        calls: 0,
+        faults: 0,
+    };
+    vec![in alloc; child].ok()
+}
+
+/// A prune whose children say what the words say.
+pub fn prune<R: Abort + Threads + Wait + Sync>(rt: &R, alloc: Global, ask: &str) -> Option<String> {
+    let given = Given {
+        words: "once f",
+        file: "snap",
+        failing_put: 0,
+    };
+    let mut children = script_of(alloc, ask)?;
+    in_line(rt, alloc, given, &mut children)
+}
+
+#[test]
+fn children_that_fail(rt: HostRuntime) {
+    for block in BLOCKS.split("\n\n") {
+        is(&rt, block, written(&rt, rt.alloc(), block, Course::Script));
+    }
+}
