@@ -27,7 +27,26 @@ pub struct Starter<P> {
     pub errors: Errors,
 }
 
+/// The command line of a child. It is made in a function of its own, so that it is let go at few exits.
+fn command_of(alloc: Global, argv: &[String]) -> io::Result<Command> {
+    let Some(program) = argv.first() else {
+        return Err(io::Error::from(ErrorKind::InvalidInput));
+    };
+    let mut command = Command::new(alloc, program.as_str())?;
+    for word in &argv[1..] {
+        command.arg(word.as_str())?;
+    }
+    Ok(command)
+}
+
 impl<P: Processes> Starter<P> {
+    fn stderr(&self) -> Stdio {
+        match self.errors {
+            Errors::Shared => Stdio::inherit(),
+            Errors::Dropped => Stdio::null(),
+        }
+    }
+
     /// Starts the program that the first word names. Its environment is this process's.
     pub fn start(
         &self,
@@ -35,18 +54,8 @@ impl<P: Processes> Starter<P> {
         stdin: Stdio,
         stdout: Stdio,
     ) -> io::Result<Child<P::Started>> {
-        let Some(program) = argv.first() else {
-            return Err(io::Error::from(ErrorKind::InvalidInput));
-        };
-        let mut command = Command::new(self.alloc, program.as_str())?;
-        for word in &argv[1..] {
-            command.arg(word.as_str())?;
-        }
-        let stderr = match self.errors {
-            Errors::Shared => Stdio::inherit(),
-            Errors::Dropped => Stdio::null(),
-        };
-        command
+        let stderr = self.stderr();
+        command_of(self.alloc, argv)?
             .stdin(stdin)
             .stdout(stdout)
             .stderr(stderr)
