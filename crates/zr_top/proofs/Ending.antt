@@ -1,5 +1,5 @@
-use Rattle.std.proofs.lemmas.Bool.{lt-ltb}
-use Rattle.std.proofs.Common.{◌≡◌, ◌∙◌, ℕ, zero, suc, Bool, true, false, ◌||◌, List, [], ◌∷◌, ap, arith, refl, sym, subst}
+use Rattle.std.proofs.lemmas.Bool.{lt-ltb, ltb-true}
+use Rattle.std.proofs.Common.{◌≡◌, ◌∙◌, ◌<◌, ℕ, zero, suc, Bool, true, false, ◌||◌, List, [], ◌∷◌, ap, arith, refl, sym, subst}
 use Rattle.std.specs.Prelude.{if◌then◌else◌, nat_lt}
 use Rattle.zr_names.specs.declared.outcome.Outcome.{Outcome}
 use Rattle.zr_names.specs.declared.outcome.Outcome.TheVariants as outcome
@@ -89,3 +89,8 @@ pub printed-of-runs : (attempts : List Attempt) (totals : Totals) (given : Statu
 printed-of-runs attempts totals given are printed =
     let by_status : Status → Type 0 = λ wanted. Printed wanted given in
     subst by_status (ap status_of are ∙ status-of-runs attempts) printed
+
+-- some units were ended by a child's fault: so the totals say
+pub faults-above : (attempts : List Attempt) (totals : Totals) → totals ≡ totals_of attempts → some_ended is_child_fault attempts ≡ true → 0 < totals.faults
+faults-above attempts totals are fault =
+    ltb-true 0 totals.faults (ap (λ (t : Totals). nat_lt 0 t.faults) are ∙ shows-all (λ t. nat_lt 0 t.faults) is_child_fault shows-fault attempts no_totals ∙ fault)

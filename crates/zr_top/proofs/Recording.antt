@@ -1,6 +1,6 @@
-use Rattle.std.proofs.Common.{◌≡◌, ◌≢◌, ◌∙◌, ℕ, ◌⊎◌, Bool, codes, true, false, List, [], ◌∷◌, ◌++◌, Option, Some, None, Ok, inl, inr, refl, ap, lit<, subst, sym}
+use Rattle.std.proofs.Common.{◌≡◌, ◌≢◌, ◌<◌, ◌∙◌, ℕ, ◌⊎◌, Bool, codes, true, false, List, [], ◌∷◌, ◌++◌, Option, Some, None, Ok, inl, inr, refl, ap, lit<, subst, sym}
 use Rattle.std.specs.Io.KnownBytes.{append_known}
-use Rattle.std.specs.List.{Contains}
+use Rattle.std.specs.List.{All, Contains}
 use Rattle.zr_names.specs.declared.totals.Totals.{Totals}
 use Rattle.zr_jobs.specs.declared.job.JobSet.{JobSet}
 use Rattle.zr_top.specs.declared.status.Status.{Status}
@@ -13,14 +13,15 @@ use Rattle.zr_exec.specs.Entries.{entries_of}
 use Rattle.zr_exec.specs.Running.{Running}
 use Rattle.zr_exec.proofs.Told.{same_program}
 use Rattle.zr_top.specs.Clock.{Ticks}
-use Rattle.zr_top.specs.Attempts.{Attempt, entries}
-use Rattle.zr_top.specs.Due.{RanDue}
-use Rattle.zr_top.specs.Records.{fault_line, FirstRan, IsFrontOf, Known, RanBytes, RanFile, RanJobs, RanNext, IsNext, Told, Unrun, Wrote, WroteFrontOf, zfs}
+use Rattle.zr_top.specs.Attempts.{AreNumbered, Attempt, entries, IsGood, no_totals, totals_of}
+use Rattle.zr_top.specs.Due.{IsDue, RanDue}
+use Rattle.zr_top.specs.Records.{fault_line, FirstHas, FirstNext, FirstRan, FirstRose, IsFrontOf, IsNext, Known, RanBytes, RanFile, RanJobs, RanNext, Told, Unrun, View, Wrote, WroteFrontOf, zfs}
 use Rattle.zr_top.specs.Status.{code_of, is_conflict_or_too_long, is_garbled, is_unrun, Printed, some_ended, status_of, status_of_runs}
 use Rattle.zr_top.specs.Totals.{totals_text}
 use Rattle.zr_top.proofs.Books.{balanced}
-use Rattle.zr_top.proofs.Ending.{first_of, printed-of-runs, status-of-runs}
+use Rattle.zr_top.proofs.Ending.{faults-above, first_of, printed-of-runs, status-of-runs}
 use Rattle.zr_top.proofs.Fronts.{wrote-nothing}
+use Rattle.zr_top.proofs.Promises.{all-honest, means}
 
 -- what was due was run with children of the program that was asked for, by the record that is read so
 pub of-program : (jobs : JobSet) (moment : Option ℕ) (program asked : List ℕ) (before now : Told) (totals : Totals) → RanDue jobs moment (entries_of asked before) (entries_of program now) totals → RanDue jobs moment (entries_of asked before) (entries_of asked now) totals
@@ -56,6 +57,16 @@ memory-status : (attempts : List Attempt) → some_ended is_out_of_memory attemp
 memory-status attempts memory =
     ap (λ (b : Bool). first_of b (some_ended is_garbled attempts) (some_ended is_child_fault attempts) (some_ended is_conflict_or_too_long attempts)) memory
 
+-- what was due at a clock's next moment and was attempted, with its totals
+pub record RanFirst (jobs : JobSet) (moments : Option (List ℕ)) (totals : Totals) : Type 0 where
+  pub moment : Option ℕ
+  pub next : IsNext moments moment
+  pub attempts : List Attempt
+  pub due : IsDue jobs moment attempts
+  pub good : All (IsGood jobs) attempts
+  pub numbered : AreNumbered no_totals attempts
+  pub totals_are : totals ≡ totals_of attempts
+
 -- what became of the line of some totals: the status, and what was written
 pub record LinePrinted (totals : Totals) (wrote_before wrote : Known) (given : Status) : Type 0 where
   pub memory_first : status_of totals ≡ status.OutOfMemory → given ≡ status.OutOfMemory
@@ -63,25 +74,49 @@ pub record LinePrinted (totals : Totals) (wrote_before wrote : Known) (given : S
   pub printed : Wrote given wrote_before wrote (totals_text totals)
   pub front : WroteFrontOf wrote_before wrote (totals_text totals)
 
+-- the totals have a failed child only where the count of the first runner's faults rose
+abbrev pub TotalsRose : Totals → View → View → Type 0
+TotalsRose totals before now = 0 < totals.faults → FirstRose before.child_faults now.child_faults
+
+-- the first runner ran all that was due, of these records
+pub first-next : (jobs : JobSet) (moments : Option (List ℕ)) (before now : List Told) (totals : Totals) → FirstNext jobs moments before now totals → (ran : RanFirst jobs moments totals) × FirstHas before now ran.attempts
+first-next jobs moments [] now totals ran = absurd ran
+first-next jobs moments (b ∷ others) [] totals ran = absurd ran
+first-next jobs moments (b ∷ others) (n ∷ left) totals ran = (
+  record {
+    moment = ran.moment;
+    next = ran.next;
+    attempts = ran.ran.attempts;
+    due = ran.ran.due;
+    good = ran.ran.good;
+    numbered = ran.ran.numbered;
+    totals_are = ran.ran.totals_are;
+  },
+  ran.ran.recorded,
+)
+
 -- all that was due was attempted with the first runner, and the totals were printed
-pub ran-jobs : (jobs : JobSet) (moments : Option (List ℕ)) (before now : List Told) (totals : Totals) (wrote_before wrote : Known) (given : Status) → FirstRan jobs moments before now (Ok totals) → LinePrinted totals wrote_before wrote given → RanJobs jobs moments before now wrote_before wrote given
-ran-jobs jobs moments [] now totals wrote_before wrote given ran line = absurd ran
-ran-jobs jobs moments (b ∷ others) [] totals wrote_before wrote given ran line = absurd ran
-ran-jobs jobs moments (b ∷ others) (n ∷ left) totals wrote_before wrote given ran line =
-    let attempts = ran.ran.attempts in
-    let are = ran.ran.totals_are in
-    let Front : Totals → Type 0 = λ t. WroteFrontOf wrote_before wrote (totals_text t) in
+pub ran-jobs : (jobs : JobSet) (moments : Option (List ℕ)) (before now : View) (totals : Totals) (given : Status) → FirstRan jobs moments before.records now.records (Ok totals) → TotalsRose totals before now → LinePrinted totals before.written now.written given → RanJobs jobs moments before now given
+ran-jobs jobs moments before now totals given ran rose line =
+    let first = first-next jobs moments before.records now.records totals ran in
+    let attempts = first.0.attempts in
+    let are = first.0.totals_are in
+    let printed = printed-of-runs attempts totals given are line.by_totals in
+    let Front : Totals → Type 0 = λ t. WroteFrontOf before.written now.written (totals_text t) in
     record {
-      moment = ran.moment;
-      next = ran.next;
+      moment = first.0.moment;
+      next = first.0.next;
       attempts = attempts;
-      due = ran.ran.due;
-      good = ran.ran.good;
-      numbered = ran.ran.numbered;
-      recorded = ran.ran.recorded;
+      due = first.0.due;
+      good = first.0.good;
+      numbered = first.0.numbered;
+      recorded = first.1;
+      honest = all-honest jobs attempts first.0.good;
       books = balanced attempts;
-      status = printed-of-runs attempts totals given are line.by_totals;
-      printed = λ loud. line.printed loud ∙ ap (λ t. append_known wrote_before (totals_text t ++ 10 ∷ [])) are;
+      fault_rose = λ fault. rose (faults-above attempts totals are fault);
+      status = printed;
+      means = means attempts given printed;
+      printed = λ loud. line.printed loud ∙ ap (λ t. append_known before.written (totals_text t ++ 10 ∷ [])) are;
       memory_first = λ memory. line.memory_first (ap status_of are ∙ status-of-runs attempts ∙ memory-status attempts memory);
       front = subst Front are line.front;
     }
@@ -102,29 +137,30 @@ line-printed totals wanted wrote_before wrote given line of is printed first wri
     }
 
 -- there was no memory for the line
-pub ran-short : (jobs : JobSet) (moments : Option (List ℕ)) (before now : List Told) (totals : Totals) (told : Known) → FirstRan jobs moments before now (Ok totals) → RanJobs jobs moments before now told told status.OutOfMemory
-ran-short jobs moments before now totals told ran =
-    ran-jobs jobs moments before now totals told told status.OutOfMemory ran (record {
-      by_totals = inr (inr refl);
-      memory_first = λ memory. refl;
-      printed = λ loud. absurd (silent loud);
-      front = wrote-nothing told (totals_text totals);
-    })
-
--- nothing was run, and nothing was printed, for want of memory
-pub idle-short : (file : List ℕ) (told : List Told) (wrote : Known) → Unrun file told told wrote wrote status.OutOfMemory
-idle-short file told wrote = record {
-  same = refl;
-  unrun = refl;
-  line = codes "cannot read " ++ file;
-  of_file = inl refl;
-  front = wrote-nothing wrote (codes "cannot read " ++ file);
+pub no-line : (totals : Totals) (told : Known) → LinePrinted totals told told status.OutOfMemory
+no-line totals told = record {
+  by_totals = inr (inr refl);
+  memory_first = λ memory. refl;
+  printed = λ loud. absurd (silent loud);
+  front = wrote-nothing told (totals_text totals);
 }
 
+-- nothing was run, and nothing was printed, for want of memory
+pub idle-short : (file : List ℕ) (before now : View) → now.records ≡ before.records → now.written ≡ before.written → Unrun file before now status.OutOfMemory
+idle-short file before now same silent =
+    let line = codes "cannot read " ++ file in
+    record {
+      same = same;
+      unrun = refl;
+      line = line;
+      of_file = inl refl;
+      front = subst (λ (w : Known). WroteFrontOf before.written w line) (sym silent) (wrote-nothing before.written line);
+    }
+
 -- what was read of a file was run, or nothing was
-pub ran-file : (file : List ℕ) (content : Option (List ℕ)) (read bytes : List ℕ) (moments : Option (List ℕ)) (before now : List Told) (wrote_before wrote : Known) (given : Status) → bytes ≡ read → IsFrontOf content read → Unrun file before now wrote_before wrote given ⊎ RanBytes bytes moments before now wrote_before wrote given → RanFile file content moments before now wrote_before wrote given
-ran-file file content read bytes moments before now wrote_before wrote given is front (inl unrun) = inl unrun
-ran-file file content read bytes moments before now wrote_before wrote given is front (inr ran) =
+pub ran-file : (file : List ℕ) (content : Option (List ℕ)) (read bytes : List ℕ) (moments : Option (List ℕ)) (before now : View) (given : Status) → bytes ≡ read → IsFrontOf content read → Unrun file before now given ⊎ RanBytes bytes moments before now given → RanFile file content moments before now given
+ran-file file content read bytes moments before now given is front (inl unrun) = inl unrun
+ran-file file content read bytes moments before now given is front (inr ran) =
     inr (record { bytes = bytes; front = λ whole there. is ∙ front whole there; ran = ran })
 
 printed-unrun : (given : Status) → Printed status.Unreadable given → is_unrun given ≡ true
@@ -133,29 +169,14 @@ printed-unrun given (inr (inl is)) = ap is_unrun is
 printed-unrun given (inr (inr is)) = ap is_unrun is
 
 -- a file that could not be read was not run
-pub unread-unrun : (file : List ℕ) (content : Option (List ℕ)) (moments : Option (List ℕ)) (told : List Told) (wrote_before wrote : Known) (given : Status) → Printed status.Unreadable given → WroteFrontOf wrote_before wrote (codes "cannot read " ++ file) → RanFile file content moments told told wrote_before wrote given
-unread-unrun file content moments told wrote_before wrote given printed front = inl (record {
-  same = refl;
+pub unread-unrun : (file : List ℕ) (before now : View) (given : Status) → now.records ≡ before.records → Printed status.Unreadable given → WroteFrontOf before.written now.written (codes "cannot read " ++ file) → Unrun file before now given
+unread-unrun file before now given same printed front = record {
+  same = same;
   unrun = printed-unrun given printed;
   line = codes "cannot read " ++ file;
   of_file = inl refl;
   front = front;
-})
-
--- and neither was one that is refused
-pub refused-unrun : (file : List ℕ) (told : List Told) (wrote_before wrote : Known) (given : Status) (why : JobFault) → is_unrun given ≡ true → why ≢ fault.NoMemory → WroteFrontOf wrote_before wrote (fault_line why) → Unrun file told told wrote_before wrote given
-refused-unrun file told wrote_before wrote given why unrun other front = record {
-  same = refl;
-  unrun = unrun;
-  line = fault_line why;
-  of_file = inr (why, other, refl);
-  front = front;
 }
-
--- the same, of a record that stayed as it was
-pub idle-same : (file : List ℕ) (before now : List Told) (wrote : Known) → now ≡ before → Unrun file before now wrote wrote status.OutOfMemory
-idle-same file before now wrote same =
-    subst (λ (told : List Told). Unrun file before told wrote wrote status.OutOfMemory) (sym same) (idle-short file before wrote)
 
 no-toml : fault.NotToml ≢ fault.NoMemory
 no-toml e = cc
@@ -167,33 +188,41 @@ too-long : fault.TooManyBytes ≢ fault.NoMemory
 too-long e = cc
 
 -- a job file gave no jobs: it is refused, or there was no memory
-pub no-jobs-unrun : (file : List ℕ) (told : List Told) (wrote_before wrote : Known) (given : Status) (why : JobFault) → is_unrun given ≡ true → (why ≢ fault.NoMemory → WroteFrontOf wrote_before wrote (fault_line why)) → (why ≡ fault.NoMemory → wrote ≡ wrote_before) → Unrun file told told wrote_before wrote given
-no-jobs-unrun file told wrote_before wrote given fault.NoMemory unrun loud silent =
-    let line = codes "cannot read " ++ file in
-    record {
-      same = refl;
-      unrun = unrun;
-      line = line;
-      of_file = inl refl;
-      front = subst (λ (w : Known). WroteFrontOf wrote_before w line) (sym (silent refl)) (wrote-nothing wrote_before line);
-    }
-no-jobs-unrun file told wrote_before wrote given fault.NotToml unrun loud silent =
-    refused-unrun file told wrote_before wrote given fault.NotToml unrun no-toml (loud no-toml)
-no-jobs-unrun file told wrote_before wrote given fault.NotBuilt unrun loud silent =
-    refused-unrun file told wrote_before wrote given fault.NotBuilt unrun no-jobs (loud no-jobs)
-no-jobs-unrun file told wrote_before wrote given fault.TooManyBytes unrun loud silent =
-    refused-unrun file told wrote_before wrote given fault.TooManyBytes unrun too-long (loud too-long)
+pub no-jobs-unrun : (file : List ℕ) (before now : View) (given : Status) (why : JobFault) → now.records ≡ before.records → is_unrun given ≡ true → (why ≢ fault.NoMemory → WroteFrontOf before.written now.written (fault_line why)) → (why ≡ fault.NoMemory → now.written ≡ before.written) → Unrun file before now given
+no-jobs-unrun file before now given why same unrun loud silent = choose why loud silent where
+  refused : (why : JobFault) → why ≢ fault.NoMemory → WroteFrontOf before.written now.written (fault_line why) → Unrun file before now given
+  refused why other front = record {
+    same = same;
+    unrun = unrun;
+    line = fault_line why;
+    of_file = inr (why, other, refl);
+    front = front;
+  }
+
+  choose : (why : JobFault) → (why ≢ fault.NoMemory → WroteFrontOf before.written now.written (fault_line why)) → (why ≡ fault.NoMemory → now.written ≡ before.written) → Unrun file before now given
+  choose fault.NoMemory loud silent =
+      let line = codes "cannot read " ++ file in
+      record {
+        same = same;
+        unrun = unrun;
+        line = line;
+        of_file = inl refl;
+        front = subst (λ (w : Known). WroteFrontOf before.written w line) (sym (silent refl)) (wrote-nothing before.written line);
+      }
+  choose fault.NotToml loud silent = refused fault.NotToml no-toml (loud no-toml)
+  choose fault.NotBuilt loud silent = refused fault.NotBuilt no-jobs (loud no-jobs)
+  choose fault.TooManyBytes loud silent = refused fault.TooManyBytes too-long (loud too-long)
 
 -- the jobs of some bytes were run, or nothing was
-pub bytes-ran : (file bytes : List ℕ) (jobs : JobSet) (moments : Option (List ℕ)) (before now : List Told) (wrote_before wrote : Known) (given : Status) → ReadsJobs bytes (Ok jobs) → Unrun file before now wrote_before wrote given ⊎ RanJobs jobs moments before now wrote_before wrote given → Unrun file before now wrote_before wrote given ⊎ RanBytes bytes moments before now wrote_before wrote given
-bytes-ran file bytes jobs moments before now wrote_before wrote given reads (inl unrun) = inl unrun
-bytes-ran file bytes jobs moments before now wrote_before wrote given reads (inr ran) =
+pub bytes-ran : (file bytes : List ℕ) (jobs : JobSet) (moments : Option (List ℕ)) (before now : View) (given : Status) → ReadsJobs bytes (Ok jobs) → Unrun file before now given ⊎ RanJobs jobs moments before now given → Unrun file before now given ⊎ RanBytes bytes moments before now given
+bytes-ran file bytes jobs moments before now given reads (inl unrun) = inl unrun
+bytes-ran file bytes jobs moments before now given reads (inr ran) =
     inr (record { jobs = jobs; of_file = reads; ran = ran })
 
 -- the record of the named file's run, under its name in the words
-pub ran-named : (content : List ℕ → Option (List ℕ)) (named file : List ℕ) (moments : Option (List ℕ)) (before now : List Told) (wrote_before wrote : Known) (given : Status) (code : ℕ) → named ≡ file → code ≡ code_of given → RanFile named (content named) moments before now wrote_before wrote given → (x : Status) × (code ≡ code_of x) × RanFile file (content file) moments before now wrote_before wrote x
-ran-named content named file moments before now wrote_before wrote given code same is ran =
-    let at : List ℕ → Type 0 = λ name. RanFile name (content name) moments before now wrote_before wrote given in
+pub ran-named : (content : List ℕ → Option (List ℕ)) (named file : List ℕ) (moments : Option (List ℕ)) (before now : View) (given : Status) (code : ℕ) → named ≡ file → code ≡ code_of given → RanFile named (content named) moments before now given → (x : Status) × (code ≡ code_of x) × RanFile file (content file) moments before now x
+ran-named content named file moments before now given code same is ran =
+    let at : List ℕ → Type 0 = λ name. RanFile name (content name) moments before now given in
     (given, is, subst at same ran)
 
 -- the codes where the words are no command

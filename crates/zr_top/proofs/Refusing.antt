@@ -8,6 +8,7 @@ use Rattle.zr_jobfile.specs.JobFile.{IsJobFile, IsText, ReadsJobs}
 use Rattle.zr_top.specs.declared.status.Status.{Status}
 use Rattle.zr_top.specs.declared.status.Status.TheVariants as status
 use Rattle.zr_top.specs.Status.{code_of, IsRefused, Printed, RefusedOrUnread}
+use Rattle.zr_top.specs.Stored.{Asked, AsksAtMost}
 
 same-tree : (bytes : List ℕ) (one other : Members) → IsText bytes one → IsText bytes other → other ≡ one
 same-tree bytes one other a b = let e : Some other ≡ Some one = sym b.parsed ∙ a.parsed in cc
@@ -72,3 +73,9 @@ unread-not-refused given (inr (inr is)) e = other-memory (sym is ∙ e)
 -- the file that the words name
 pub same-file : (named : Option (List ℕ)) (file other : List ℕ) → Some file ≡ named → named ≡ Some other → file ≡ other
 same-file named file other is e = let both : Some file ≡ Some other = is ∙ e in cc
+
+-- the file that was asked for, under its name in the words
+pub asks-named : (before now : Asked) (named file : List ℕ) → named ≡ file → AsksAtMost before now named → AsksAtMost before now file
+asks-named before now named file same asks =
+    let At : List ℕ → Type 0 = λ path. AsksAtMost before now path in
+    subst At same asks

@@ -1,27 +1,23 @@
-use Rattle.std.specs.Prelude.{◌≡◌, ◌⊎◌, ◌+◌, ◌++◌, ◌∷◌, [], ℕ, List, Option, Some, None, Ok, Contains, codes, take}
+use Rattle.std.specs.Prelude.{◌≡◌, ◌+◌, ◌++◌, ◌∷◌, [], ℕ, List, Option, Some, None, Ok, Contains, codes, take}
 use Rattle.std.specs.Io.KnownBytes.{append_known}
 use Rattle.zr_base.specs.Count.{Rose}
 use Rattle.zr_jobs.specs.declared.job.JobSet.{JobSet}
-use Rattle.zr_permit.specs.Result.{is_child_fault}
 use Rattle.zr_jobfile.specs.declared.TheConstants.{FILE_LIMIT}
 use Rattle.zr_jobfile.specs.JobFile.{ReadsJobs}
 use Rattle.zr_top.specs.declared.report.TheConstants.{USAGE}
 use Rattle.zr_top.specs.declared.status.Status.{Status}
-use Rattle.zr_top.specs.Attempts.{Attempt}
-use Rattle.zr_top.specs.Promises.{AllHonest, Completed, OfAnyRuns, OfRuns, SomeEnded}
-use Rattle.zr_top.specs.Records.{FirstRose, Known, RanFile, RefusalPrinted, Told, WroteFrontOf}
-use Rattle.zr_top.specs.Status.{code_of, is_conflict_or_too_long, is_garbled, IsRefused}
+use Rattle.zr_top.specs.Records.{FirstRose, RanFile, RefusalPrinted, View, WroteFrontOf}
+use Rattle.zr_top.specs.Status.{code_of, IsRefused}
+use Rattle.zr_top.specs.Stored.{Asked, AsksAtMost}
 use Rattle.zr_top.specs.Words.{file_of}
 
--- what the objects of a call tell before it or after it: the count of the faults of reading and the path that failed
--- last, what the runners tell and the counts of their children's faults, and what was written and the count of the
--- faults of writing
+-- what the objects of a call tell before it or after it: the count of the faults of reading, the path that failed last and
+-- the paths that were asked for; what the runners and the output tell; and the count of the faults of writing
 pub record Edges : Type 0 where
   pub read_faults : ℕ
   pub unread : Option (List ℕ)
-  pub records : List Told
-  pub child_faults : List ℕ
-  pub written : Known
+  pub asked : Asked
+  pub view : View
   pub write_faults : ℕ
 
 -- a call of the program: its words, what files contain, the clock's moments, what its objects tell before and after, and
@@ -34,13 +30,12 @@ pub record Call : Type 0 where
   pub after : Edges
   pub status : ℕ
 
-abbrev pub edges : ℕ → Option (List ℕ) → List Told → List ℕ → Known → ℕ → Edges
-edges read_faults unread records child_faults written write_faults = record {
+abbrev pub edges : ℕ → Option (List ℕ) → Asked → View → ℕ → Edges
+edges read_faults unread asked view write_faults = record {
   read_faults = read_faults;
   unread = unread;
-  records = records;
-  child_faults = child_faults;
-  written = written;
+  asked = asked;
+  view = view;
   write_faults = write_faults;
 }
 
@@ -67,15 +62,11 @@ pub record Finds (c : Call) (file whole : List ℕ) : Type 0 where
 abbrev pub front : List ℕ → List ℕ
 front whole = take (FILE_LIMIT + 1) whole
 
--- this holds of the runs of the jobs of a file
-abbrev pub OfFile : Call → List ℕ → (JobSet → List Attempt → Type 0) → Type 0
-OfFile c file Holds = OfRuns (c.content file) c.before.records c.after.records Holds
-
 -- no fault of the call's own: its files, its output and its first runner failed at nothing
 pub record IsSound (c : Call) : Type 0 where
   pub files : ¬ Rose c.before.read_faults c.after.read_faults
   pub output : ¬ Rose c.before.write_faults c.after.write_faults
-  pub children : ¬ FirstRose c.before.child_faults c.after.child_faults
+  pub children : ¬ FirstRose c.before.view.child_faults c.after.view.child_faults
 
 -- the promises of a call of `zrepl`
 pub record Keeps (c : Call) : Type 0 where
@@ -86,32 +77,32 @@ pub record Keeps (c : Call) : Type 0 where
   pub refused_only : c.status ≡ 3 → (file whole : List ℕ) → Finds c file whole → IsRefused (front whole)
   pub refused :
       (file whole : List ℕ) → Finds c file whole → IsRefused (front whole) → Contains (3 ∷ 7 ∷ 8 ∷ 9 ∷ []) c.status
-  -- the first runner's record has legal runs of the file's units more, which are what was due, and the printed totals
-  -- and the status are those of their outcomes
+  -- the first runner's record has legal runs of the file's units more, which are what was due and destroyed honestly, and
+  -- the printed totals and the status are those of their outcomes; or nothing was run
   pub ran :
       (file : List ℕ) → Names c file →
-      (given : Status) × (c.status ≡ code_of given) × RanFile file (c.content file) c.moments c.before.records c.after.records c.before.written c.after.written given
-  -- what was destroyed stood in a listing of its unit before, with no holds and kept by no rule
-  pub honest :
-      (file : List ℕ) → Names c file → OfAnyRuns (c.content file) c.before.records c.after.records AllHonest
-  -- 6, 5 and 4 only where a run ended so; 5 also only where the count of the first runner's faults rose in this call
-  pub garbled : c.status ≡ 6 → (file : List ℕ) → Names c file → OfFile c file (SomeEnded is_garbled)
-  pub failed : c.status ≡ 5 → (file : List ℕ) → Names c file → OfFile c file (SomeEnded is_child_fault)
-  pub failed_rose : c.status ≡ 5 → FirstRose c.before.child_faults c.after.child_faults
-  pub too_long : c.status ≡ 4 → (file : List ℕ) → Names c file → OfFile c file (SomeEnded is_conflict_or_too_long)
-  -- completeness: with an accepted file and no fault, all that was due was done, or memory was wanting
+      (given : Status) × (c.status ≡ code_of given) × RanFile file (c.content file) c.moments c.before.view c.after.view given
+  -- no file is read but the one that is named, and that once
+  pub asked : (file : List ℕ) → Names c file → AsksAtMost c.before.asked c.after.asked file
+  pub unasked : file_of c.words ≡ None → c.after.asked ≡ c.before.asked
+  -- 5 only where the count of the first runner's faults rose in this call
+  pub failed_rose : c.status ≡ 5 → FirstRose c.before.view.child_faults c.after.view.child_faults
+  -- completeness: with an accepted file and no fault the status is 0, 4 or 6, of which `ran` says that all that was due was
+  -- done, but for garbled listings; or memory was wanting
   pub complete :
       (file whole : List ℕ) (jobs : JobSet) → Finds c file whole → ReadsJobs (front whole) (Ok jobs) → IsSound c →
-      (c.status ≡ 9) ⊎ OfFile c file (Completed c.moments c.status)
+      Contains (0 ∷ 4 ∷ 6 ∷ 9 ∷ []) c.status
   -- one line is all that is printed, and a front of it at most where the output or memory failed; that of a named file is
   -- part of `ran`
-  pub usage_front : file_of c.words ≡ None → WroteFrontOf c.before.written c.after.written USAGE.now
-  pub usage_printed : c.status ≡ 2 → c.after.written ≡ append_known c.before.written (USAGE.now ++ 10 ∷ [])
+  pub usage_front : file_of c.words ≡ None → WroteFrontOf c.before.view.written c.after.view.written USAGE.now
+  pub usage_printed :
+      c.status ≡ 2 → c.after.view.written ≡ append_known c.before.view.written (USAGE.now ++ 10 ∷ [])
   pub refusal_printed :
-      c.status ≡ 3 → (file whole : List ℕ) → Finds c file whole → RefusalPrinted (front whole) c.before.written c.after.written
+      c.status ≡ 3 → (file whole : List ℕ) → Finds c file whole →
+      RefusalPrinted (front whole) c.before.view.written c.after.view.written
   pub unread_printed :
       c.status ≡ 7 → (file : List ℕ) → Names c file →
-      c.after.written ≡ append_known c.before.written (codes "cannot read " ++ file ++ 10 ∷ [])
+      c.after.view.written ≡ append_known c.before.view.written (codes "cannot read " ++ file ++ 10 ∷ [])
   -- 7 and 8 only where the count of the faults of reading, of writing, rose in this call
   pub unreadable :
       c.status ≡ 7 → Rose c.before.read_faults c.after.read_faults × (file_of c.words ≡ c.after.unread)

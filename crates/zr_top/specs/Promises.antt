@@ -1,31 +1,15 @@
-use Rattle.std.specs.Prelude.{⊤, ◌≡◌, ◌⊎◌, ℕ, Bool, true, false, List, Option, Some, None, All, Ok, if◌then◌else◌}
+use Rattle.std.specs.Prelude.{⊤, ◌≡◌, ◌||◌, ℕ, Bool, true, false, List, Option, Some, None, All}
 use Rattle.zr_names.specs.declared.outcome.Outcome.{Outcome}
 use Rattle.zr_names.specs.declared.outcome.Outcome.TheVariants as outcome
+use Rattle.zr_names.specs.declared.unit.Unit.{Unit}
 use Rattle.zr_jobs.specs.declared.job.JobSet.{JobSet}
 use Rattle.zr_permit.specs.Honest.{IsHonest}
+use Rattle.zr_permit.specs.Result.{is_child_fault}
 use Rattle.zr_permit.specs.Transcript.{Transcript}
-use Rattle.zr_names.specs.declared.unit.Unit.{Unit}
-use Rattle.zr_jobfile.specs.JobFile.{ReadsJobs}
-use Rattle.zr_top.specs.Attempts.{Attempt, IsGood}
-use Rattle.zr_top.specs.Due.{IsDue}
-use Rattle.zr_top.specs.Records.{FirstHas, IsFrontOf, IsNext, Told}
+use Rattle.zr_top.specs.declared.status.Status.{Status}
+use Rattle.zr_top.specs.declared.status.Status.TheVariants as status
+use Rattle.zr_top.specs.Attempts.{Attempt}
 use Rattle.zr_top.specs.Status.{is_conflict_or_too_long, is_garbled, some_ended}
-
--- of a call for the file of this content, by what the first runner tells before and now: these jobs are
--- those of the file, the record has the runs of these attempts more, and this holds of them
-pub record OfRuns (content : Option (List ℕ)) (before now : List Told) (Holds : JobSet → List Attempt → Type 0) : Type 0 where
-  pub bytes : List ℕ
-  pub front : IsFrontOf content bytes
-  pub jobs : JobSet
-  pub of_file : ReadsJobs bytes (Ok jobs)
-  pub attempts : List Attempt
-  pub good : All (IsGood jobs) attempts
-  pub recorded : FirstHas before now attempts
-  pub holds : Holds jobs attempts
-
--- nothing was run, or it holds of the runs
-abbrev pub OfAnyRuns : Option (List ℕ) → List Told → List Told → (JobSet → List Attempt → Type 0) → Type 0
-OfAnyRuns content before now Holds = (now ≡ before) ⊎ OfRuns content before now Holds
 
 -- a run that was begun destroyed honestly
 abbrev pub Destroys : JobSet → Unit → Option (ℕ × Transcript) → Type 0
@@ -37,10 +21,6 @@ Destroys jobs unit (Some begun) = IsHonest jobs unit begun.1
 abbrev pub AllHonest : JobSet → List Attempt → Type 0
 AllHonest jobs attempts = All (λ (a : Attempt). Destroys jobs a.unit a.begun) attempts
 
--- some run ended so
-abbrev pub SomeEnded : (Outcome → Bool) → JobSet → List Attempt → Type 0
-SomeEnded so jobs attempts = some_ended so attempts ≡ true
-
 -- the unit has finished: it was begun, and is no failed child, garbled listing or want of memory
 abbrev pub is_finished : Outcome → Bool
 is_finished (outcome.ChildFault at) = false
@@ -48,18 +28,26 @@ is_finished (outcome.Garbled at line) = false
 is_finished outcome.NoMemory = false
 is_finished other = true
 
+abbrev pub is_fault_or_garbled : Outcome → Bool
+is_fault_or_garbled ended = is_child_fault ended || is_garbled ended
+
+-- each unit has finished, or ended so
+abbrev pub FinishedOr : (Outcome → Bool) → List Attempt → Type 0
+FinishedOr so attempts = All (λ (a : Attempt). is_finished a.ended || so a.ended ≡ true) attempts
+
+-- each unit has finished
 abbrev pub AllFinished : List Attempt → Type 0
 AllFinished attempts = All (λ (a : Attempt). is_finished a.ended ≡ true) attempts
 
--- the status where all units have finished: 4 exactly where one ended in a conflict, or a path was too long
-abbrev pub finished_code : List Attempt → ℕ
-finished_code attempts = if some_ended is_conflict_or_too_long attempts then 4 else 0
-
--- all that was due was attempted, once and in order; and a listing was garbled, or every unit has finished
--- and the status is 0 or 4
-pub record Completed (moments : Option (List ℕ)) (code : ℕ) (jobs : JobSet) (attempts : List Attempt) : Type 0 where
-  pub moment : Option ℕ
-  pub next : IsNext moments moment
-  pub due : IsDue jobs moment attempts
-  pub done :
-      (some_ended is_garbled attempts ≡ true) ⊎ (AllFinished attempts × (code ≡ finished_code attempts))
+-- what a status says of the units that were run: 0, each has finished, and none in a conflict or with a path that is too
+-- long; 4, each has finished, and one so; 5, a child's fault ended one, and each other has finished; 6, a garbled listing
+-- ended one, and each other has finished or was ended by a child's fault; the other statuses come of the output, of want of
+-- memory or where nothing is run
+abbrev pub Means : Status → List Attempt → Type 0
+Means status.Clean attempts = AllFinished attempts × (some_ended is_conflict_or_too_long attempts ≡ false)
+Means status.Conflict attempts = AllFinished attempts × (some_ended is_conflict_or_too_long attempts ≡ true)
+Means status.ChildFault attempts = FinishedOr is_child_fault attempts × (some_ended is_child_fault attempts ≡ true)
+Means status.Garbled attempts = FinishedOr is_fault_or_garbled attempts × (some_ended is_garbled attempts ≡ true)
+Means status.Unwritable attempts = ⊤
+Means status.OutOfMemory attempts = ⊤
+Means other attempts = ⊥

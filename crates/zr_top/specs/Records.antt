@@ -1,4 +1,4 @@
-use Rattle.std.specs.Prelude.{⊤, ◌≡◌, ◌≢◌, ◌⊎◌, ◌+◌, ℕ, Bool, true, false, List, [], ◌∷◌, ◌++◌, Option, Some, None, Result, Ok, Err, All, codes, length, take}
+use Rattle.std.specs.Prelude.{⊤, ◌≡◌, ◌≢◌, ◌⊎◌, ◌+◌, ℕ, Bool, true, false, List, [], ◌∷◌, ◌++◌, Option, Some, None, Result, Ok, Err, All, codes, length, map, take}
 use Rattle.std.specs.Io.KnownBytes.{append_known}
 use Rattle.zr_base.specs.declared.memory.NoMemory.{NoMemory}
 use Rattle.zr_names.specs.declared.totals.Totals.{Totals}
@@ -14,9 +14,10 @@ use Rattle.zr_jobfile.specs.JobFile.{ReadsJobs}
 use Rattle.zr_top.specs.declared.status.Status.{Status}
 use Rattle.zr_top.specs.declared.status.Status.TheVariants as status
 use Rattle.zr_pipe.specs.Ends.{WroteFront}
-use Rattle.zr_permit.specs.Result.{is_out_of_memory}
+use Rattle.zr_permit.specs.Result.{is_child_fault, is_out_of_memory}
 use Rattle.zr_top.specs.Attempts.{AreNumbered, Attempt, entries, IsBalanced, IsGood, no_totals, totals_of}
 use Rattle.zr_top.specs.Due.{IsDue, RanDue}
+use Rattle.zr_top.specs.Promises.{AllHonest, Means}
 use Rattle.zr_top.specs.Status.{is_unrun, Printed, some_ended, status_of_runs}
 use Rattle.zr_top.specs.Totals.{totals_text}
 
@@ -31,6 +32,17 @@ Told = Option (List Line)
 -- the bytes that were written to the output, where it tells them
 abbrev pub Known : Type 0
 Known = Option (List ℕ)
+
+-- what the runners and the output tell, before a call or after it: the runners' records, the counts of their children's
+-- faults, and what was written
+pub record View : Type 0 where
+  pub records : List Told
+  pub child_faults : List ℕ
+  pub written : Known
+
+abbrev pub view : {R : Type 0} → (R → Told) → (R → ℕ) → List R → Known → View
+view told faults runners written =
+    record { records = map told runners; child_faults = map faults runners; written = written }
 
 -- the next moment of a clock, where it tells its moments
 abbrev pub IsNext : Option (List ℕ) → Option ℕ → Type 0
@@ -83,21 +95,29 @@ Wrote given before now line = is_silent given ≡ false → now ≡ append_known
 abbrev pub WroteFrontOf : Known → Known → List ℕ → Type 0
 WroteFrontOf before now line = WroteFront before now (line ++ 10 ∷ [])
 
--- all that is due for these jobs was attempted with the first runner, and the totals were printed
-pub record RanJobs (jobs : JobSet) (moments : Option (List ℕ)) (before now : List Told) (wrote_before wrote : Known) (given : Status) : Type 0 where
+-- all that is due for these jobs was attempted with the first runner, and the totals were printed: one list of attempts
+-- for all that is said
+pub record RanJobs (jobs : JobSet) (moments : Option (List ℕ)) (before now : View) (given : Status) : Type 0 where
   pub moment : Option ℕ
   pub next : IsNext moments moment
   pub attempts : List Attempt
   pub due : IsDue jobs moment attempts
   pub good : All (IsGood jobs) attempts
   pub numbered : AreNumbered no_totals attempts
-  pub recorded : FirstHas before now attempts
+  pub recorded : FirstHas before.records now.records attempts
+  -- what was destroyed stood in a listing of its unit before, with no holds and kept by no rule
+  pub honest : AllHonest jobs attempts
   pub books : IsBalanced (totals_of attempts) (length attempts)
-  -- want of memory comes before a failing output, and whatever failed, nothing but a front of the totals was written
+  -- a child's fault ends a unit only where the count of the first runner's faults rose
+  pub fault_rose :
+      some_ended is_child_fault attempts ≡ true → FirstRose before.child_faults now.child_faults
+  -- the status is that of how the units ended, want of memory before all else, and says of each what it means
   pub memory_first : some_ended is_out_of_memory attempts ≡ true → given ≡ status.OutOfMemory
   pub status : Printed (status_of_runs attempts) given
-  pub printed : Wrote given wrote_before wrote (totals_text (totals_of attempts))
-  pub front : WroteFrontOf wrote_before wrote (totals_text (totals_of attempts))
+  pub means : Means given attempts
+  -- the totals were printed, and whatever failed, nothing but a front of them was written
+  pub printed : Wrote given before.written now.written (totals_text (totals_of attempts))
+  pub front : WroteFrontOf before.written now.written (totals_text (totals_of attempts))
 
 -- the line of a job file's fault
 abbrev pub fault_line : JobFault → List ℕ
@@ -112,34 +132,33 @@ IsIdleLine file line =
     (line ≡ codes "cannot read " ++ file) ⊎ ((why : JobFault) × (why ≢ fault.NoMemory) × (line ≡ fault_line why))
 
 -- nothing was run of this file, and a front of its line at most was written
-pub record Unrun (file : List ℕ) (before now : List Told) (wrote_before wrote : Known) (given : Status) : Type 0 where
-  pub same : now ≡ before
+pub record Unrun (file : List ℕ) (before now : View) (given : Status) : Type 0 where
+  pub same : now.records ≡ before.records
   pub unrun : is_unrun given ≡ true
   pub line : List ℕ
   pub of_file : IsIdleLine file line
-  pub front : WroteFrontOf wrote_before wrote line
+  pub front : WroteFrontOf before.written now.written line
 
 -- the bytes that were read of a file are its first ones, where its content is told
 abbrev pub IsFrontOf : Option (List ℕ) → List ℕ → Type 0
 IsFrontOf content bytes = (whole : List ℕ) → content ≡ Some whole → bytes ≡ take (FILE_LIMIT + 1) whole
 
 -- the jobs of these bytes were run
-pub record RanBytes (bytes : List ℕ) (moments : Option (List ℕ)) (before now : List Told) (wrote_before wrote : Known) (given : Status) : Type 0 where
+pub record RanBytes (bytes : List ℕ) (moments : Option (List ℕ)) (before now : View) (given : Status) : Type 0 where
   pub jobs : JobSet
   pub of_file : ReadsJobs bytes (Ok jobs)
-  pub ran : RanJobs jobs moments before now wrote_before wrote given
+  pub ran : RanJobs jobs moments before now given
 
 -- the jobs of the file of this content were run
-pub record RanContent (content : Option (List ℕ)) (moments : Option (List ℕ)) (before now : List Told) (wrote_before wrote : Known) (given : Status) : Type 0 where
+pub record RanContent (content : Option (List ℕ)) (moments : Option (List ℕ)) (before now : View) (given : Status) : Type 0 where
   pub bytes : List ℕ
   pub front : IsFrontOf content bytes
-  pub ran : RanBytes bytes moments before now wrote_before wrote given
+  pub ran : RanBytes bytes moments before now given
 
 -- the jobs of the file of this content were run, or nothing was
-abbrev pub RanFile : List ℕ → Option (List ℕ) → Option (List ℕ) → List Told → List Told → Known → Known → Status → Type 0
-RanFile file content moments before now wrote_before wrote given =
-    Unrun file before now wrote_before wrote given
-    ⊎ RanContent content moments before now wrote_before wrote given
+abbrev pub RanFile : List ℕ → Option (List ℕ) → Option (List ℕ) → View → View → Status → Type 0
+RanFile file content moments before now given =
+    Unrun file before now given ⊎ RanContent content moments before now given
 
 -- the bytes of a job file are refused, and the line of their fault, which is not empty, is all that was printed
 pub record RefusalPrinted (bytes : List ℕ) (wrote_before wrote : Known) : Type 0 where

@@ -1,7 +1,7 @@
-ghost use Rattle.std.specs.Prelude.{◌≡◌, ◌≢◌, ◌≤◌, ◌+◌, ℕ, List, Option, Some, IfOk, find, take};
+ghost use Rattle.std.specs.Prelude.{◌≡◌, ◌≢◌, ◌≤◌, ◌+◌, ◌++◌, ◌∷◌, [], ℕ, List, Option, Some, IfOk, OnOk, OnErr, find, take};
 ghost use Rattle.std.specs.Option.{option_copied};
 ghost use Rattle.zr_base.specs.Count.{Rose};
-ghost use Rattle.zr_top.specs.Stored.{is_stored_at};
+ghost use Rattle.zr_top.specs.Stored.{Asked, AsksAtMost, is_stored_at};
 
 use std::alloc::{AllocError, Global};
 use std::marker::Model;
@@ -22,6 +22,9 @@ pub trait Files {
     /// The path that could not be read last.
     ghost failed: { Self → Option (List ℕ) };
 
+    /// The paths that were asked for, in order, where they are told.
+    ghost asked: { Self → Asked };
+
     /// The bytes of the file at a path, where they are told and the file is there.
     ghost content: { Self → List ℕ → Option (List ℕ) };
 
@@ -30,6 +33,7 @@ pub trait Files {
         ensures bytes { IfOk result (λ bytes. (whole : List ℕ) →
             content self.old path.now ≡ Some whole → bytes.items ≡ take (limit + 1) whole) }
         ensures content { (other : List ℕ) → content self.new other ≡ content self.old other }
+        ensures asked { AsksAtMost (asked self.old) (asked self.new) path.now }
         ensures failed_rose { result ≡ Err ReadFault.Failed → Rose (faults self.old) (faults self.new) }
         ensures failed_path { result ≡ Err ReadFault.Failed → failed self.new ≡ Some path.now }
         ensures later { faults self.old ≤ faults self.new }
@@ -61,6 +65,7 @@ pub struct MemFiles {
     alloc: Global,
     files: Vec<StoredFile>,
     failing: Vec<u64>,
+    asked: Vec<Bytes>,
     calls: u64,
     faults: u64,
     failed: Option<Bytes>,
@@ -74,6 +79,7 @@ impl Model for MemFiles {
     ghost view = { λ m. record {
       files = m.files.items;
       failing = m.failing.items;
+      asked = m.asked.items;
       calls = m.calls;
       faults = m.faults;
       failed = m.failed;
@@ -81,7 +87,7 @@ impl Model for MemFiles {
 }
 
 impl MemFiles {
-    ghost use Rattle.std.specs.Prelude.{◌≡◌, None};
+    ghost use Rattle.std.specs.Prelude.{◌≡◌, [], None};
     ghost use Rattle.std.specs.Option.{option_copied};
 
     /// Files whose n-th read, counted from 1, fails where `failing` names n, and so does that of a file
@@ -90,6 +96,7 @@ impl MemFiles {
         ensures { result ≡ record {
           files = files.items;
           failing = failing.items;
+          asked = [];
           calls = 0;
           faults = 0;
           failed = None;
@@ -99,6 +106,7 @@ impl MemFiles {
             alloc,
             files,
             failing,
+            asked: Vec::new(alloc),
             calls: 0,
             faults: 0,
             failed: None,
@@ -133,16 +141,31 @@ fn front(alloc: Global, bytes: &[u8], limit: usize) -> Result<Vec<u8>, AllocErro
     }
 }
 
+/// Keeps the path of a file that is asked for.
+fn note(alloc: Global, asked: &mut Vec<Bytes>, path: &str) -> Result<(), AllocError>
+    ensures noted { OnOk result (asked.new.items ≡ asked.old.items ++ path.now ∷ []) }
+    ensures kept { OnErr result (asked.new.items ≡ asked.old.items) }
+{
+    asked.push(Bytes::from_slice(alloc, path.as_bytes())?)?;
+    Ok(())
+}
+
 impl Files for MemFiles {
+    ghost use Rattle.std.specs.Prelude.{Some};
     ghost use Rattle.zr_top.specs.Stored.{content_of};
 
     ghost faults = { λ m. m.faults };
 
     ghost failed = { λ m. m.failed };
 
+    ghost asked = { λ m. Some m.asked };
+
     ghost content = { λ m path. content_of m.files path };
 
     fn read(&mut self, path: &str, limit: usize) -> Result<Vec<u8>, ReadFault> {
+        if note(self.alloc, &mut self.asked, path).is_err() {
+            return Err(ReadFault::NoMemory);
+        }
         self.calls = self.calls.saturating_add(1);
         let fails = self.failing.contains(&self.calls);
         match stored(self.files.as_slice(), path) {

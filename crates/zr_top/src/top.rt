@@ -4,9 +4,10 @@ ghost use Rattle.zr_jobfile.specs.declared.TheConstants.{FILE_LIMIT};
 ghost use Rattle.std.specs.Io.KnownBytes.{append_known};
 ghost use Rattle.zr_pipe.specs.Faults.{Rose};
 ghost use Rattle.zr_top.specs.Calls.{call, edges, Keeps};
-ghost use Rattle.zr_top.specs.Records.{FirstRan, FirstRose, RefusalPrinted, Wrote, WroteFrontOf, RanBytes, RanFile, RanJobs, RanOnce, Unrun};
+ghost use Rattle.zr_top.specs.Records.{FirstRan, FirstRose, RefusalPrinted, Wrote, WroteFrontOf, RanBytes, RanFile, RanJobs, RanOnce, Unrun, view};
 ghost use Rattle.zr_top.specs.declared.status.Status.{Status};
 ghost use Rattle.zr_top.specs.Status.{is_idle, is_of_run, IsRefused, Printed, RefusedOrUnread};
+ghost use Rattle.zr_top.specs.Stored.{AsksAtMost};
 ghost use Rattle.zr_top.specs.Words.{file_of};
 
 use crate::clock::Clock;
@@ -83,10 +84,12 @@ fn run_jobs<R: Spawn + Drop, C: Clock + Drop, S: Sink>(
     requires few { length jobs.now.jobs < 2 ^ 32 }
     ensures len { vec_len children.new ≡ vec_len children.old }
     ensures of_run { is_of_run result ≡ true }
-    ensures ran { (file : List ℕ) → Unrun file (map (λ r. R.told r) children.old.items)
-        (map (λ r. R.told r) children.new.items) (S.written out.old) (S.written out.new) result
-        ⊎ RanJobs jobs.now (C.moments clock) (map (λ r. R.told r) children.old.items)
-        (map (λ r. R.told r) children.new.items) (S.written out.old) (S.written out.new) result }
+    ensures ran { (file : List ℕ) → Unrun file
+        (view (λ r. R.told r) (λ r. R.faults r) children.old.items (S.written out.old))
+        (view (λ r. R.told r) (λ r. R.faults r) children.new.items (S.written out.new)) result
+        ⊎ RanJobs jobs.now (C.moments clock)
+        (view (λ r. R.told r) (λ r. R.faults r) children.old.items (S.written out.old))
+        (view (λ r. R.told r) (λ r. R.faults r) children.new.items (S.written out.new)) result }
     ensures failed { result ≡ Status.ChildFault →
         FirstRose (map (λ r. R.faults r) children.old.items) (map (λ r. R.faults r) children.new.items) }
     ensures others { drop 1 children.new.items ≡ drop 1 children.old.items }
@@ -118,10 +121,12 @@ fn run_file<R: Spawn + Drop, C: Clock + Drop, S: Sink>(
     ensures no_usage { result ≢ Status.Usage }
     ensures readable { result ≢ Status.Unreadable }
     ensures idle { result ≡ Status.JobFile → children.new.items ≡ children.old.items }
-    ensures ran { (file : List ℕ) → Unrun file (map (λ r. R.told r) children.old.items)
-        (map (λ r. R.told r) children.new.items) (S.written out.old) (S.written out.new) result
-        ⊎ RanBytes bytes.now (C.moments clock) (map (λ r. R.told r) children.old.items)
-        (map (λ r. R.told r) children.new.items) (S.written out.old) (S.written out.new) result }
+    ensures ran { (file : List ℕ) → Unrun file
+        (view (λ r. R.told r) (λ r. R.faults r) children.old.items (S.written out.old))
+        (view (λ r. R.told r) (λ r. R.faults r) children.new.items (S.written out.new)) result
+        ⊎ RanBytes bytes.now (C.moments clock)
+        (view (λ r. R.told r) (λ r. R.faults r) children.old.items (S.written out.old))
+        (view (λ r. R.told r) (λ r. R.faults r) children.new.items (S.written out.new)) result }
     ensures failed { result ≡ Status.ChildFault →
         FirstRose (map (λ r. R.faults r) children.old.items) (map (λ r. R.faults r) children.new.items) }
     ensures others { drop 1 children.new.items ≡ drop 1 children.old.items }
@@ -169,8 +174,9 @@ fn run_named<F: Files, R: Spawn + Drop, C: Clock + Drop, S: Sink>(
     ensures no_usage { result ≢ Status.Usage }
     ensures idle { is_idle result ≡ true → children.new.items ≡ children.old.items }
     ensures ran { RanFile file.now (F.content files.old file.now) (C.moments clock)
-        (map (λ r. R.told r) children.old.items) (map (λ r. R.told r) children.new.items)
-        (S.written out.old) (S.written out.new) result }
+        (view (λ r. R.told r) (λ r. R.faults r) children.old.items (S.written out.old))
+        (view (λ r. R.told r) (λ r. R.faults r) children.new.items (S.written out.new)) result }
+    ensures asked { AsksAtMost (F.asked files.old) (F.asked files.new) file.now }
     ensures failed { result ≡ Status.ChildFault →
         FirstRose (map (λ r. R.faults r) children.old.items) (map (λ r. R.faults r) children.new.items) }
     ensures others { drop 1 children.new.items ≡ drop 1 children.old.items }
@@ -211,10 +217,12 @@ where
     ensures unrun { file_of (map string_bytes words.now) ≡ None → children.new.items ≡ children.old.items }
     ensures idle { (result ≡ 2) ⊎ (result ≡ 3) ⊎ (result ≡ 7) → children.new.items ≡ children.old.items }
     ensures kept { Keeps (call (map string_bytes words.now) (F.content files.old) (C.moments clock)
-        (edges (F.faults files.old) (F.failed files.old) (map (λ r. R.told r) children.old.items)
-        (map (λ r. R.faults r) children.old.items) (S.written out.old) (S.faults out.old))
-        (edges (F.faults files.new) (F.failed files.new) (map (λ r. R.told r) children.new.items)
-        (map (λ r. R.faults r) children.new.items) (S.written out.new) (S.faults out.new)) result) }
+        (edges (F.faults files.old) (F.failed files.old) (F.asked files.old)
+        (view (λ r. R.told r) (λ r. R.faults r) children.old.items (S.written out.old))
+        (S.faults out.old))
+        (edges (F.faults files.new) (F.failed files.new) (F.asked files.new)
+        (view (λ r. R.told r) (λ r. R.faults r) children.new.items (S.written out.new))
+        (S.faults out.new)) result) }
 {
     match once_file(words) {
         Some(file) => run_named(alloc, file, files, children, clock, out).code(),

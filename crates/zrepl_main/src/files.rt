@@ -70,6 +70,8 @@ impl<F: fs::Files> Files for RealFiles<F> {
 
     ghost failed = { λ f. f.failed };
 
+    ghost asked = { λ _. None };
+
     ghost content = { λ _ _. None };
 
     fn read(&mut self, path: &str, limit: usize) -> Result<Vec<u8>, ReadFault> {

@@ -1,4 +1,4 @@
-use Rattle.std.proofs.Common.{inl}
+use Rattle.std.proofs.Common.{inl, refl}
 use Rattle.zr_top.proofs.Recording.{bytes-ran, no-jobs-unrun}
 use Rattle.zr_top.proofs.Refusing.{read-not-refused}
 use Rattle.zr_top.proofs.top.run_file.Goals as goal
@@ -9,8 +9,8 @@ returns-in-Ok-clause-refused g c = λ refused.
 
 pub returns-in-Ok-clause-ran : goal.returns-in-Ok-clause-ran
 returns-in-Ok-clause-ran g c = λ file.
-    bytes-ran file c.args.bytes.now c.in-Ok.jobs _ _ _ _ _ _ c.in-Ok.ensures (c.run_jobs.ensures.ran file)
+    bytes-ran file c.args.bytes.now c.in-Ok.jobs _ _ _ _ c.in-Ok.ensures (c.run_jobs.ensures.ran file)
 
 pub returns-in-Err-clause-ran : goal.returns-in-Err-clause-ran
 returns-in-Err-clause-ran g c = λ file.
-    inl (no-jobs-unrun file _ _ _ _ c.in-Err.fault c.refuse.ensures.unrun c.refuse.ensures.front c.refuse.ensures.silent)
+    inl (no-jobs-unrun file _ _ _ c.in-Err.fault refl c.refuse.ensures.unrun c.refuse.ensures.front c.refuse.ensures.silent)

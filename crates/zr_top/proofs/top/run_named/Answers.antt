@@ -1,4 +1,4 @@
-use Rattle.std.proofs.Common.{◌∙◌, ℕ, List, inl, subst, sym}
+use Rattle.std.proofs.Common.{◌∙◌, ℕ, List, inl, refl, subst, sym}
 use Rattle.zr_top.specs.Records.{RefusalPrinted}
 use Rattle.zr_top.specs.Status.{IsRefused}
 use Rattle.zr_top.proofs.Refusing.{unread, unread-not-refused}
@@ -34,10 +34,10 @@ returns-in-Err-Failed-clause-refused_only g c = λ is whole there.
 
 pub returns-in-Ok-clause-ran : goal.returns-in-Ok-clause-ran
 returns-in-Ok-clause-ran g c =
-    ran-file _ _ _ _ _ _ _ _ _ _ c.as_slice.ensures.value c.in-Ok.ensures.bytes (c.run_file.ensures.ran _)
+    ran-file _ _ _ _ _ _ _ _ c.as_slice.ensures.value c.in-Ok.ensures.bytes (c.run_file.ensures.ran _)
 
 pub returns-in-Err-Failed-clause-ran : goal.returns-in-Err-Failed-clause-ran
-returns-in-Err-Failed-clause-ran g c = unread-unrun _ _ _ _ _ _ _ c.unreadable.ensures.printed c.unreadable.ensures.front
+returns-in-Err-Failed-clause-ran g c = inl (unread-unrun _ _ _ _ refl c.unreadable.ensures.printed c.unreadable.ensures.front)
 
 pub returns-clause-ran : goal.returns-clause-ran
-returns-clause-ran g c = inl (idle-short c.args.file.now _ _)
+returns-clause-ran g c = inl (idle-short c.args.file.now _ _ refl refl)

@@ -4,9 +4,8 @@ use Rattle.std.specs.List.{Contains}
 use Rattle.std.specs.Prelude.{codes}
 use Rattle.zr_top.specs.Records.{is_silent}
 use Rattle.zr_top.specs.Status.{is_idle}
-use Rattle.zr_top.specs.declared.status.Status.TheVariants as status
-use Rattle.zr_top.proofs.Promises.{at-file, conflict-code, fault-code, garbled-code, no-command, ran-cause, ran-complete, ran-honest, unread-code, unwritable-code, usage-caused, usage-code}
-use Rattle.zr_top.proofs.Refusing.{job_file-code, read-not-refused, refused-codes, same-file}
+use Rattle.zr_top.proofs.Promises.{fault-code, no-command, sound-codes, unread-code, unwritable-code, usage-caused, usage-code}
+use Rattle.zr_top.proofs.Refusing.{asks-named, job_file-code, read-not-refused, refused-codes, same-file}
 use Rattle.zr_top.proofs.Recording.{ran-named, usage-codes}
 use Rattle.zr_top.proofs.top.zrepl.Goals as goal
 
@@ -25,25 +24,20 @@ returns-in-Some-clause-kept g c =
           let among : ℕ → Type 0 = λ code. Contains (3 ∷ 7 ∷ 8 ∷ 9 ∷ []) code in
           subst among (sym c.code.ensures) codes;
       ran = λ file named.
-          ran-named content _ file _ _ _ _ _ _ _ (same-file _ _ file c.in-Some.ensures named) c.code.ensures run.ran;
-      honest = λ file named.
-          ran-honest _ _ _ _ _ _ _ _ (at-file content _ file _ _ _ _ _ _ (same-file _ _ file c.in-Some.ensures named) run.ran);
-      garbled = λ six file named.
-          ran-cause _ _ _ _ _ _ _ _ status.Garbled (at-file content _ file _ _ _ _ _ _ (same-file _ _ file c.in-Some.ensures named) run.ran) (garbled-code _ (sym c.code.ensures ∙ six)) refl;
-      failed = λ five file named.
-          ran-cause _ _ _ _ _ _ _ _ status.ChildFault (at-file content _ file _ _ _ _ _ _ (same-file _ _ file c.in-Some.ensures named) run.ran) (fault-code _ (sym c.code.ensures ∙ five)) refl;
+          ran-named content _ file _ _ _ _ _ (same-file _ _ file c.in-Some.ensures named) c.code.ensures run.ran;
+      asked = λ file named. asks-named _ _ _ file (same-file _ _ file c.in-Some.ensures named) run.asked;
+      unasked = λ none. absurd (no-command _ _ none (sym c.in-Some.ensures));
       failed_rose = λ five. run.failed (fault-code _ (sym c.code.ensures ∙ five));
-      too_long = λ four file named.
-          ran-cause _ _ _ _ _ _ _ _ status.Conflict (at-file content _ file _ _ _ _ _ _ (same-file _ _ file c.in-Some.ensures named) run.ran) (conflict-code _ (sym c.code.ensures ∙ four)) refl;
       complete = λ file whole jobs finds reads sound.
           let at = same-file _ _ file c.in-Some.ensures finds.named in
-          ran-complete _ _ _ _ _ _ _ _ _ c.code.ensures (at-file content _ file _ _ _ _ _ _ at run.ran) (record {
+          let among : ℕ → Type 0 = λ code. Contains (0 ∷ 4 ∷ 6 ∷ 9 ∷ []) code in
+          subst among (sym c.code.ensures) (sound-codes c.run_named.result (record {
             no_usage = run.no_usage;
             accepted = λ is. read-not-refused _ jobs reads (run.refused_only is whole (ap content at ∙ finds.there));
             readable = λ is. sound.files (run.unreadable is).0;
             writable = λ is. sound.output (run.unwritable is);
             no_fault = λ is. sound.children (run.failed is);
-          });
+          }));
       usage_printed = λ two. absurd (run.no_usage (usage-code _ (sym c.code.ensures ∙ two)));
       usage_front = λ none. absurd (no-command _ _ none (sym c.in-Some.ensures));
       refusal_printed = λ three file whole finds.
@@ -70,11 +64,9 @@ returns-in-None-clause-kept g c =
       refused_only = λ three file whole finds. absurd (no-command _ file none finds.named);
       refused = λ file whole finds refused. absurd (no-command _ file none finds.named);
       ran = λ file named. absurd (no-command _ file none named);
-      honest = λ file named. absurd (no-command _ file none named);
-      garbled = λ six file named. absurd (no-command _ file none named);
-      failed = λ five file named. absurd (no-command _ file none named);
+      asked = λ file named. absurd (no-command _ file none named);
+      unasked = λ no_file. refl;
       failed_rose = λ five. absurd (caused.0 (sym c.code-in-None.ensures ∙ five));
-      too_long = λ four file named. absurd (no-command _ file none named);
       complete = λ file whole jobs finds reads sound. absurd (no-command _ file none finds.named);
       usage_printed = λ two. c.print.ensures.wrote (ap is_silent (usage-code c.print.result (sym c.code-in-None.ensures ∙ two)));
       usage_front = λ no_file. c.print.ensures.front;
