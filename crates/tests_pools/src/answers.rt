@@ -12,11 +12,20 @@ pub fn push_name(text: &mut String, name: &VersionName) -> Result<(), AllocError
     }
 }
 
+/// A tag, with `~` for a blank.
+fn push_tag(text: &mut String, tag: &str) -> Result<(), AllocError> {
+    for letter in tag.chars() {
+        text.push(if letter == ' ' { '~' } else { letter })?;
+    }
+    Ok(())
+}
+
 /// Tags in brackets, of which none stand for no tags.
 pub fn push_tags(text: &mut String, tags: &[Tag]) -> Result<(), AllocError> {
     let mut front = "[";
     for tag in tags {
-        write!(text, "{front}{}", shown(tag.as_bytes()))?;
+        text.push_str(front)?;
+        push_tag(text, shown(tag.as_bytes()))?;
         front = ",";
     }
     text.push_str(if tags.is_empty() { "" } else { "]" })

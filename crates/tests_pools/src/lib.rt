@@ -2,7 +2,7 @@
 //!
 //! Pools are `now 9000 txg 100 guid 500;tank @a:11:1:1011 #a:11;` and so on: the counters and then each dataset, with a
 //! `;` behind each. A dataset is its path, `placeholder`, `partial TO FROM SOURCE` and its versions. A version is
-//! `@name:guid:txg:creation[tag,tag]`, or with one number where the three are the same.
+//! `@name:guid:txg:creation[tag,tag]`, or with one number where the three are the same; `~` in a tag stands for a blank.
 #![tactic(auto)]
 
 pub use answers::answer_text;

@@ -39,7 +39,9 @@ pub fn job(alloc: Global, text: &str) -> Option<JobName> {
     read_job(alloc, text.as_bytes()).ok()
 }
 
+/// A tag, in which `~` stands for a blank.
 pub fn tag(alloc: Global, text: &str) -> Option<Tag> {
+    let text = text.replace(alloc, "~", " ").ok()?;
     read_tag(alloc, text.as_bytes()).ok()
 }
 

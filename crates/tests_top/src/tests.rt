@@ -2,6 +2,7 @@
 //! came, and compares the two.
 
 mod calls;
+mod clocks;
 mod cuts;
 mod faults;
 mod lengths;
@@ -15,7 +16,7 @@ use zr_exec::Spawn;
 use zr_model::{MemSpawn, is_well_formed};
 use zr_names::Moment;
 use zr_pipe::MemSink;
-use zr_top::{MemClock, MemFiles, StoredFile, zrepl};
+use zr_top::{Clock, MemClock, MemFiles, StoredFile, zrepl};
 use zr_world::Planned;
 
 /// A job that keeps the newest two snapshots of each dataset of `tank`.
@@ -128,10 +129,12 @@ enum Course<'a> {
     Push { before: &'a str, done: &'a str },
     /// A prune whose output is cut.
     Output,
-    /// A prune whose children say what they were told to.
+    /// A prune or a push whose children say what they were told to.
     Script,
     /// Paths of these lengths.
     Length,
+    /// So many datasets or snapshots.
+    Many,
 }
 
 /// What comes of a question. A function and no trait's method: the bounds on the runtime stand here.
@@ -144,8 +147,9 @@ fn came<R: Abort + Threads + Wait + Sync>(
     match course {
         Course::Push { before, done } => cuts::push(rt, alloc, before, done, ask),
         Course::Output => cuts::put(rt, alloc, ask),
-        Course::Script => faults::prune(rt, alloc, ask),
+        Course::Script => faults::script(rt, alloc, ask),
         Course::Length => lengths::job(rt, alloc, ask),
+        Course::Many => lengths::many(rt, alloc, ask),
     }
 }
 
@@ -190,6 +194,17 @@ fn ran<R: Abort + Threads + Wait + Sync, S: Spawn + Send + Drop>(
     children: &mut Vec<S>,
 ) -> Option<Ended> {
     let clock = clock(alloc)?;
+    ran_at(rt, alloc, given, clock, children)
+}
+
+/// The same with another clock.
+fn ran_at<R: Abort + Threads + Wait + Sync, C: Clock + Send + Drop, S: Spawn + Send + Drop>(
+    rt: &R,
+    alloc: Global,
+    given: Given<'_>,
+    clock: C,
+    children: &mut Vec<S>,
+) -> Option<Ended> {
     let words = words_of(alloc, given.words)?;
     let mut files = files_of(alloc, given.file)?;
     let mut out = output_of(alloc, given.failing_put)?;

@@ -1,8 +1,8 @@
 //! Filters: which paths they match, which roots they reach, and what their patterns read as.
 //! Answers were worked out from the rule by hand.
 
-use super::lines::{Unread, answer, ask_of, bytes_of, check, fault, path, shown, text};
 use std::alloc::Global;
+use tests_lines::{Unread, answer, ask_of, bytes_of, fault, is_wanted, path, shown, text, told};
 use zr_filter::{Entry, Filter, matches, reaches, read_pattern};
 use zr_names::{NameFault, Rows};
 
@@ -188,7 +188,8 @@ fn said(alloc: Global, ask: &str) -> Result<String, Unread> {
 fn filters(rt: HostRuntime) {
     for line in CASES.lines() {
         if let Some(ask) = ask_of(line) {
-            check(&rt, line, said(rt.alloc(), ask));
+            let said = said(rt.alloc(), ask);
+            assert!(rt; is_wanted(line, &said), "{line}: {}", told(&said));
         }
     }
 }

@@ -1,9 +1,9 @@
 //! Where a job puts what it replicates: the target of a source, its bytes, and which identities there are.
 //! A line has the root, the identity of a push, and the source.
 
-use super::lines::{Unread, ask_of, bytes_of, check, column, fault, placed, shown, text};
 use std::alloc::Global;
 use std::str::Split;
+use tests_lines::{Unread, ask_of, bytes_of, column, fault, is_wanted, placed, shown, text, told};
 use zr_jobs::{
     Destination, Identity, IdentityFault, TargetFault, read_identity, target_length, target_of,
 };
@@ -116,7 +116,8 @@ fn said(alloc: Global, ask: &str) -> Result<String, Unread> {
 fn targets_and_identities(rt: HostRuntime) {
     for line in CASES.lines() {
         if let Some(ask) = ask_of(line) {
-            check(&rt, line, said(rt.alloc(), ask));
+            let said = said(rt.alloc(), ask);
+            assert!(rt; is_wanted(line, &said), "{line}: {}", told(&said));
         }
     }
 }

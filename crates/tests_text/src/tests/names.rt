@@ -1,11 +1,11 @@
 //! Names and their faults, what bookmarks and tags are to a job, and what totals count of outcomes.
 //! Answers were worked out from the rules by hand.
 
-use super::lines::{
-    Unread, answer, ask_of, bytes_of, check, count, counted, fault, job, mark, number, path, shown,
-    text,
-};
 use std::alloc::Global;
+use tests_lines::{
+    Unread, answer, ask_of, bytes_of, count, counted, fault, is_wanted, job, mark, number, path,
+    shown, text, told,
+};
 use zr_names::{
     Guid, MarkKind, Moment, NameFault, Outcome, Rows, TagKind, Totals, Work, cursor_name, is_tag,
     mark_of, read_job, read_mark, read_path, read_prefix, read_snap, read_tag, read_token_text,
@@ -164,7 +164,8 @@ fn name_said(alloc: Global, ask: &str) -> Result<String, Unread> {
 fn names(rt: HostRuntime) {
     for line in NAMES.lines() {
         if let Some(ask) = ask_of(line) {
-            check(&rt, line, name_said(rt.alloc(), ask));
+            let said = name_said(rt.alloc(), ask);
+            assert!(rt; is_wanted(line, &said), "{line}: {}", told(&said));
         }
     }
 }
@@ -370,7 +371,8 @@ fn mark_said(alloc: Global, ask: &str) -> Result<String, Unread> {
 fn marks_and_tags(rt: HostRuntime) {
     for line in MARKS.lines() {
         if let Some(ask) = ask_of(line) {
-            check(&rt, line, mark_said(rt.alloc(), ask));
+            let said = mark_said(rt.alloc(), ask);
+            assert!(rt; is_wanted(line, &said), "{line}: {}", told(&said));
         }
     }
 }
@@ -514,7 +516,8 @@ fn totals_said(alloc: Global, ask: &str) -> Result<String, Unread> {
 fn totals(rt: HostRuntime) {
     for line in TOTALS.lines() {
         if let Some(ask) = ask_of(line) {
-            check(&rt, line, totals_said(rt.alloc(), ask));
+            let said = totals_said(rt.alloc(), ask);
+            assert!(rt; is_wanted(line, &said), "{line}: {}", told(&said));
         }
     }
 }

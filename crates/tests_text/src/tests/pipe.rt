@@ -1,8 +1,8 @@
 //! Relays between ends in memory: how one ended, what was written and left, and how often each end was called.
 //! A line has the bytes, or how many, and which take and which put fail; or that the sink has no memory at all.
 
-use super::lines::{Unread, ask_of, bytes_of, check, column, counted, number, text};
 use std::alloc::Global;
+use tests_lines::{Unread, ask_of, bytes_of, column, counted, is_wanted, number, text, told};
 use zr_pipe::{MemSink, MemSource, PutFault, RelayEnd, Sink, relay};
 
 const CASES: &str = r"
@@ -144,7 +144,8 @@ fn said(alloc: Global, ask: &str) -> Result<String, Unread> {
 fn relays(rt: HostRuntime) {
     for line in CASES.lines() {
         if let Some(ask) = ask_of(line) {
-            check(&rt, line, said(rt.alloc(), ask));
+            let said = said(rt.alloc(), ask);
+            assert!(rt; is_wanted(line, &said), "{line}: {}", told(&said));
         }
     }
 }

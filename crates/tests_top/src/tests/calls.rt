@@ -45,7 +45,7 @@ status 0
 =;tank @p:12:12:100 @r:13:13:200;
 
 held_snapshot_stays
-now 1000 txg 100 guid 100;tank @a:11:11:100[backup_tag] @b:12:12:200 @c:13:13:300;
+now 1000 txg 100 guid 100;tank @a:11:11:100[backup~tag] @b:12:12:200 @c:13:13:300;
 once f of snap
   zfs list -H -p -t filesystem,volume -o name,zrepl:placeholder,receive_resume_token
   zfs list -H -p -d 1 -t snapshot,bookmark -s createtxg -o name,guid,createtxg,creation,userrefs tank
@@ -63,6 +63,18 @@ once f of snap
 due=2 done=2 coalesced=0 taken=0 fresh=0 steps=0 uptodate=0 conflicts=0 destroyed=1 busy=1 placeholders=0 toolong=0 faults=0 garbled=0 nomemory=0
 status 0
 =;tank @a:11:11:100 @c:13:13:300 @d:14:14:400;
+
+the_rest_is_destroyed_behind_a_destroy_that_fails
+now 1000 txg 100 guid 100;tank @a:11:11:100 @b:12:12:200 @c:13:13:300 @d:14:14:400 @e:15:15:500;
+once f of snap
+  zfs list -H -p -t filesystem,volume -o name,zrepl:placeholder,receive_resume_token
+  zfs list -H -p -d 1 -t snapshot,bookmark -s createtxg -o name,guid,createtxg,creation,userrefs tank
+  zfs destroy tank@a
+  none zfs destroy tank@b
+  zfs destroy tank@c
+due=2 done=2 coalesced=0 taken=0 fresh=0 steps=0 uptodate=0 conflicts=0 destroyed=2 busy=1 placeholders=0 toolong=0 faults=0 garbled=0 nomemory=0
+status 0
+=;tank @b:12:12:200 @d:14:14:400 @e:15:15:500;
 
 once_alone_is_a_usage_fault
 now 1000 txg 100 guid 100;tank;
@@ -165,6 +177,20 @@ once f of push tank/a
   zfs list -H -p -d 1 -t snapshot,bookmark -s createtxg -o name,guid,createtxg,creation,userrefs tank/a
   zfs list -H -p -d 1 -t snapshot,bookmark -s createtxg -o name,guid,createtxg,creation,userrefs b/c/tank/a
   zfs holds -H b/c/tank/a@s4
+due=2 done=2 coalesced=0 taken=0 fresh=0 steps=0 uptodate=1 conflicts=0 destroyed=0 busy=0 placeholders=0 toolong=0 faults=0 garbled=0 nomemory=0
+status 0
+=
+
+the_holds_of_the_source_are_listed_before_those_of_the_target
+now 1000 txg 100 guid 100;b;b/c;b/c/tank;b/c/tank/a @s3:19[zrepl_last_received_J_p];tank;tank/a @s2:18[x] @s3:19[y] #zrepl_CURSOR_G_0000000000000013_J_p:19;
+once f of push tank/a
+  zfs list -H -p -t filesystem,volume -o name,zrepl:placeholder,receive_resume_token
+  zfs list -H -p -t filesystem,volume -o name,zrepl:placeholder,receive_resume_token
+  zfs list -H -p -d 1 -t snapshot,bookmark -s createtxg -o name,guid,createtxg,creation,userrefs tank/a
+  zfs list -H -p -d 1 -t snapshot,bookmark -s createtxg -o name,guid,createtxg,creation,userrefs b/c/tank/a
+  zfs holds -H tank/a@s2
+  zfs holds -H tank/a@s3
+  zfs holds -H b/c/tank/a@s3
 due=2 done=2 coalesced=0 taken=0 fresh=0 steps=0 uptodate=1 conflicts=0 destroyed=0 busy=0 placeholders=0 toolong=0 faults=0 garbled=0 nomemory=0
 status 0
 =

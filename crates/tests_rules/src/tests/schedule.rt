@@ -1,9 +1,11 @@
 //! Cron texts: the sets that they read as, the next minute after a moment, and whether something is due.
 //! What is wanted was reckoned with another program's calendar, and not with `zr_schedule`.
 
-use super::lines::{Unread, answer, ask_of, bytes_of, check, column, counted, number, text};
 use std::alloc::Global;
 use std::str::Split;
+use tests_lines::{
+    Unread, answer, ask_of, bytes_of, column, counted, is_wanted, number, text, told,
+};
 use zr_names::Moment;
 use zr_schedule::{CronFault, CronSpec, When, due, next_cron, read_cron};
 
@@ -227,7 +229,8 @@ fn said(alloc: Global, ask: &str) -> Result<String, Unread> {
 fn cron_texts(rt: HostRuntime) {
     for line in CASES.lines() {
         if let Some(ask) = ask_of(line) {
-            check(&rt, line, said(rt.alloc(), ask));
+            let said = said(rt.alloc(), ask);
+            assert!(rt; is_wanted(line, &said), "{line}: {}", told(&said));
         }
     }
 }

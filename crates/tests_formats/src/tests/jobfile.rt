@@ -1,8 +1,8 @@
 //! Job files: which are read, and the jobs that they give.
 //! A case is a file by its parts with one text changed, or the text of the whole; before it stands what it shows.
 
-use super::lines::{Unread, ask_of, bytes_of, check, column, shown, text};
 use std::alloc::Global;
+use tests_lines::{Unread, ask_of, bytes_of, column, is_wanted, shown, text, told};
 use zr_filter::{Entry, Filter};
 use zr_jobfile::{JobFault, read_jobs};
 use zr_jobs::{Destination, Job, JobSet, RuleSpec};
@@ -302,7 +302,8 @@ fn said(alloc: Global, ask: &str) -> Result<String, Unread> {
 fn job_files(rt: HostRuntime) {
     for line in CASES.lines() {
         if let Some(ask) = ask_of(line) {
-            check(&rt, line, said(rt.alloc(), ask));
+            let said = said(rt.alloc(), ask);
+            assert!(rt; is_wanted(line, &said), "{line}: {}", told(&said));
         }
     }
 }

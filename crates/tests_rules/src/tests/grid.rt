@@ -1,10 +1,10 @@
 //! Spans, and grids: what their texts read as, how they print, and the rows that a grid keeps.
 //! Answers were worked out from the grammar by hand.
 
-use super::lines::{
-    Unread, ask_of, bytes_of, check, column, count, counted, number, placed, shown, text,
-};
 use std::alloc::Global;
+use tests_lines::{
+    Unread, ask_of, bytes_of, column, count, counted, is_wanted, number, placed, shown, text, told,
+};
 use zr_grid::{
     GridFault, GridRow, GridSpec, Interval, Intervals, Keep, SpanFault, grid_keeps, is_ascending,
     is_grid, print_grid, read_grid, read_span,
@@ -221,8 +221,9 @@ fn hand_text(alloc: Global, ask: &str) -> Result<String, Unread> {
         intervals: intervals(alloc, ask)?,
     };
     let kind = if is_grid(&grid) { "a grid" } else { "no grid" };
+    let copy = grid.clone()?;
     let printed = printed(alloc, &grid)?;
-    let count = grid.intervals.into_vec().len();
+    let count = copy.intervals.into_vec().len();
     Ok(format!(in alloc; "{kind}: {printed}; {count} in it")?)
 }
 
@@ -241,7 +242,8 @@ fn said(alloc: Global, ask: &str) -> Result<String, Unread> {
 fn spans_and_grids(rt: HostRuntime) {
     for line in CASES.lines() {
         if let Some(ask) = ask_of(line) {
-            check(&rt, line, said(rt.alloc(), ask));
+            let said = said(rt.alloc(), ask);
+            assert!(rt; is_wanted(line, &said), "{line}: {}", told(&said));
         }
     }
 }

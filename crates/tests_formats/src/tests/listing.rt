@@ -1,8 +1,10 @@
 //! Listings: how many rows they have or which of their lines is bad, their rows, and the same printed.
 //! The listings are of all datasets, of the versions of `tank/a` and of the holds of `tank/a@s`.
 
-use super::lines::{Unread, ask_of, bytes_of, check, counted, escaped, path, placed, shown, snap};
 use std::alloc::Global;
+use tests_lines::{
+    Unread, ask_of, bytes_of, counted, escaped, is_wanted, path, placed, shown, snap, told,
+};
 use zr_command::{SetRow, VersionName, VersionRow};
 use zr_listing::{
     ListFault, print_holds, print_sets, print_versions, read_holds, read_sets, read_versions,
@@ -265,7 +267,8 @@ fn said(alloc: Global, ask: &str) -> Result<String, Unread> {
 fn listings(rt: HostRuntime) {
     for line in CASES.lines() {
         if let Some(ask) = ask_of(line) {
-            check(&rt, line, said(rt.alloc(), ask));
+            let said = said(rt.alloc(), ask);
+            assert!(rt; is_wanted(line, &said), "{line}: {}", told(&said));
         }
     }
 }

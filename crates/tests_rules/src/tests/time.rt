@@ -1,8 +1,10 @@
 //! Stamps of moments. Moments are milliseconds since 1970-01-01T00:00:00Z, and the stamps are from Python's `datetime`.
 //! A stamp that does not read as its moment is told with the word `only`.
 
-use super::lines::{Unread, answer, ask_of, bytes_of, check, counted, number, shown, text};
 use std::alloc::Global;
+use tests_lines::{
+    Unread, answer, ask_of, bytes_of, counted, is_wanted, number, shown, text, told,
+};
 use zr_names::Moment;
 use zr_time::{
     StampText, read_stamp, read_stamp_is_written_again, stamp, stamp_is_read_again,
@@ -225,7 +227,8 @@ fn said(alloc: Global, ask: &str) -> Result<String, Unread> {
 fn stamps(rt: HostRuntime) {
     for line in CASES.lines() {
         if let Some(ask) = ask_of(line) {
-            check(&rt, line, said(rt.alloc(), ask));
+            let said = said(rt.alloc(), ask);
+            assert!(rt; is_wanted(line, &said), "{line}: {}", told(&said));
         }
     }
 }

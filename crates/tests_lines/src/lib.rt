@@ -1,8 +1,8 @@
-//! How a table of cases is gone through: a text with a line for each case, `ask => want`, under headings `# ..`.
-//! A case prints what came out and one function compares it, since a test is proved as any code is and a line is not.
+//! How a table of cases is read: a text with a line for each case, `ask => want`, under headings `# ..`.
+//! A case says what came out and one function compares it, since a test is proved as any code is and a line is not.
+#![tactic(auto)]
 
 use std::alloc::{AllocError, AllocFailed, Global};
-use std::process::Abort;
 use std::str::{Split, Utf8Error};
 use zr_names::{
     JobName, MarkName, NameFault, NoMemory, Path, SnapName, read_job, read_mark, read_path,
@@ -55,11 +55,19 @@ pub fn ask_of(line: &str) -> Option<&str> {
     Some(halves(line).0)
 }
 
-/// What came out is what the line wants.
-pub fn check<R: Abort>(rt: &R, line: &str, said: Result<String, Unread>) {
+/// Whether what came out is what the line wants.
+pub fn is_wanted(line: &str, said: &Result<String, Unread>) -> bool {
     match said {
-        Ok(said) => assert!(rt; said.as_str() == halves(line).1, "{line}: {said}"),
-        Err(Unread) => panic!(rt; "{line}: this can't be read, or memory was refused"),
+        Ok(said) => said.as_str() == halves(line).1,
+        Err(Unread) => false,
+    }
+}
+
+/// What came out, for the message of a test.
+pub fn told(said: &Result<String, Unread>) -> &str {
+    match said {
+        Ok(said) => said.as_str(),
+        Err(Unread) => "this can't be read, or memory was refused",
     }
 }
 

@@ -1,11 +1,12 @@
 //! The words of the calls of `zfs`: which call they are read as, and that its command is written in the same words.
 //! A transfer is written in the words of two calls.
 
-use super::lines::{Unread, ask_of, check, mark, path, placed, shown, snap, text};
 use std::alloc::Global;
+use tests_lines::{Unread, ask_of, is_wanted, placed, shown, text, told};
+use tests_pools::command_of;
 use zr_cmd::{Argv, ArgvFault, Call, Words, argv_of, read_argv};
-use zr_command::{Base, Cmd, Transfer, VersionName};
-use zr_names::{Guid, JobName, MarkName, Path, SnapName, TagKind};
+use zr_command::{Cmd, VersionName};
+use zr_names::{JobName, MarkName, Path, SnapName, TagKind};
 
 const CASES: &str = "\
 # words of listings
@@ -21,9 +22,19 @@ destroy tank/home#m => destroy tank/home #m
 # words of bookmarks
 bookmark tank/home@s tank/home#n => bookmark tank/home @s #n
 bookmark tank/home#m tank/home#n => bookmark tank/home #m #n
+# words of commands that are built from names
+build sets => /sbin/zfs list -H -p -t filesystem,volume -o name,zrepl:placeholder,receive_resume_token
+build versions tank/home => /sbin/zfs list -H -p -d 1 -t snapshot,bookmark -s createtxg -o name,guid,createtxg,creation,userrefs tank/home
+build holds tank/home z_1 => /sbin/zfs holds -H tank/home@z_1
+build hold tank/home z_1 step nightly => /sbin/zfs hold zrepl_STEP_J_nightly tank/home@z_1
+build release tank/home z_1 last nightly => /sbin/zfs release zrepl_last_received_J_nightly tank/home@z_1
+build destroy tank/home @z_1 => /sbin/zfs destroy tank/home@z_1
+build destroy tank/home #m => /sbin/zfs destroy tank/home#m
+build bookmark tank/home @s n => /sbin/zfs bookmark tank/home@s tank/home#n
+build bookmark tank/home #m n => /sbin/zfs bookmark tank/home#m tank/home#n
 # words of a whole transfer, and of one from a bookmark
-transfer whole => /sbin/zfs send tank/home@z_2 | /sbin/zfs receive -s -u -F backup/home
-transfer m => /sbin/zfs send -i tank/home#m tank/home@z_2 | /sbin/zfs receive -s -u backup/home
+build send tank/home z_2 9 full backup/home force => /sbin/zfs send tank/home@z_2 | /sbin/zfs receive -s -u -F backup/home
+build send tank/home z_2 9 m 7 backup/home => /sbin/zfs send -i tank/home#m tank/home@z_2 | /sbin/zfs receive -s -u backup/home
 # the end that sends the whole is read, and the end that sends an increment
 send tank/home@s => send tank/home @s
 send -i tank/home#m tank/home@s => send tank/home #m @s
@@ -255,31 +266,10 @@ fn read_text(alloc: Global, read: &Result<Call, ArgvFault>, line: &str) -> Resul
     }
 }
 
-/// A transfer of `tank/home@z_2` to `backup/home`.
-fn transfer(alloc: Global, base: Base, force: bool) -> Result<Cmd, Unread> {
-    let source = path(alloc, "tank/home")?;
-    let target = path(alloc, "backup/home")?;
-    Ok(Cmd::Transfer(Transfer {
-        to: snap(alloc, "z_2")?,
-        source,
-        guid: Guid(9),
-        base,
-        target,
-        force,
-    }))
-}
-
-/// The whole is sent by force.
-fn transfer_from(alloc: Global, base: &str) -> Result<Cmd, Unread> {
-    if base == "whole" {
-        return transfer(alloc, Base::Full, true);
-    }
-    transfer(alloc, Base::From(mark(alloc, base)?, Guid(7)), false)
-}
-
+/// The words of a command that is built from names.
 // What is wide is let go by hand: at the end of a scope its parts would be let go in place.
-fn transfer_said(alloc: Global, base: &str) -> Result<String, Unread> {
-    let cmd = transfer_from(alloc, base)?;
+fn built_said(alloc: Global, command: &str) -> Result<String, Unread> {
+    let cmd = command_of(alloc, command).ok_or(Unread)?;
     let said = written(alloc, &cmd);
     drop(cmd);
     said
@@ -294,8 +284,8 @@ fn call_said(alloc: Global, ask: &str) -> Result<String, Unread> {
 }
 
 fn said(alloc: Global, ask: &str) -> Result<String, Unread> {
-    match ask.strip_prefix("transfer ") {
-        Some(base) => transfer_said(alloc, base),
+    match ask.strip_prefix("build ") {
+        Some(command) => built_said(alloc, command),
         None => call_said(alloc, ask),
     }
 }
@@ -304,7 +294,8 @@ fn said(alloc: Global, ask: &str) -> Result<String, Unread> {
 fn words_of_calls(rt: HostRuntime) {
     for line in CASES.lines() {
         if let Some(ask) = ask_of(line) {
-            check(&rt, line, said(rt.alloc(), ask));
+            let said = said(rt.alloc(), ask);
+            assert!(rt; is_wanted(line, &said), "{line}: {}", told(&said));
         }
     }
 }

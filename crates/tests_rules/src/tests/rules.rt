@@ -1,8 +1,10 @@
 //! Rules by which snapshots are kept: the names that they keep of rows, each `name:creation:txg`.
 //! A line has the rules, the rows and, where there is one, the transaction group of the cursor.
 
-use super::lines::{Unread, ask_of, check, column, count, counted, number, shown, snap, text};
 use std::alloc::Global;
+use tests_lines::{
+    Unread, ask_of, column, count, counted, is_wanted, number, shown, snap, text, told,
+};
 use zr_grid::{GridSpec, Intervals, read_grid};
 use zr_rules::{
     BuildFault, PatternText, Patterns, RegexPatterns, RuleFault, RuleRow, RuleSpec, Rules, compile,
@@ -224,6 +226,7 @@ fn answer(
     }
     let mut patterns = RegexPatterns::new(alloc);
     match compile(alloc, &mut patterns, specs) {
+        Ok(_) if patterns.refusals() > 0 => text(alloc, "compiled, but a pattern was refused"),
         Ok(mut rules) => marked(alloc, &mut rules, rows, cursor),
         Err(fault) => refused(alloc, fault, &patterns),
     }
@@ -265,7 +268,8 @@ fn said(alloc: Global, ask: &str) -> Result<String, Unread> {
 fn rules_keep(rt: HostRuntime) {
     for line in CASES.lines() {
         if let Some(ask) = ask_of(line) {
-            check(&rt, line, said(rt.alloc(), ask));
+            let said = said(rt.alloc(), ask);
+            assert!(rt; is_wanted(line, &said), "{line}: {}", told(&said));
         }
     }
 }

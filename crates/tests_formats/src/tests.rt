@@ -1,0 +1,4 @@
+//! One module for each crate under test.
+mod cmd;
+mod jobfile;
+mod listing;

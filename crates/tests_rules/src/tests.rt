@@ -1,0 +1,5 @@
+//! One module for each crate under test.
+mod grid;
+mod rules;
+mod schedule;
+mod time;
