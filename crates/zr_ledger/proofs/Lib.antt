@@ -1,3 +1,5 @@
+pub mod Answering
+pub mod Counting
 pub mod Holding
 pub mod Keeping
 pub mod Numbers

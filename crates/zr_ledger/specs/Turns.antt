@@ -1,5 +1,5 @@
 -- What `take` answers.
-use Rattle.std.specs.Prelude.{◌==◌, ℕ, ◌+◌, ◌-◌, ◌^◌, Bool, true, false, if◌then◌else◌, List, Option, Some, None, length, slice_get}
+use Rattle.std.specs.Prelude.{◌≡◌, ◌==◌, ◌⊎◌, ℕ, ◌+◌, ◌-◌, ◌<◌, ◌^◌, Bool, true, false, if◌then◌else◌, List, [], Option, Some, None, length, slice_get}
 use Rattle.zr_names.specs.declared.unit.Unit.{Unit}
 use Rattle.zr_ledger.specs.Out.{Out}
 use Rattle.zr_ledger.specs.Ready.{first_ready}
@@ -50,6 +50,18 @@ turn s clock = if is_spent s then Ended else turn_at (first_ready s.limits s.wai
 -- the state after that
 abbrev pub turned : State → State
 turned s = if is_spent s then s else first_taken s
+
+-- nothing is ready, though run numbers are left
+abbrev pub IsIdle : State → Type 0
+IsIdle s = (is_spent s ≡ false) × (first_ready s.limits s.waiting s.outs ≡ None)
+
+-- nothing comes any more: all run numbers were given, or the clock has ended and nothing waits or is out
+abbrev pub IsOver : State → Place → Type 0
+IsOver s clock = (is_spent s ≡ true) ⊎ ((clock ≡ finished) × (s.waiting ≡ []) × (s.outs ≡ []))
+
+-- nothing is ready, and the clock is away, or has ended while a unit is out
+abbrev pub IsWaiting : State → Place → Type 0
+IsWaiting s clock = IsIdle s × ((clock ≡ away) ⊎ ((clock ≡ finished) × (0 < length s.outs)))
 
 abbrev pub is_work : Turn → Bool
 is_work (Work ticket) = true

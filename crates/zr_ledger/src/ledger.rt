@@ -48,13 +48,13 @@ impl<C> Model for Ledger<C> {
 }
 
 impl<C: Drop> Ledger<C> {
-    ghost use Rattle.std.specs.Prelude.{◌≡◌, ◌≢◌, ◌↔◌, [], ◌++◌, All, IfOk, IfErr, OnErr, OnOk, IsNone, IsTrue, false, is_ok, if◌then◌else◌, length, map, position};
+    ghost use Rattle.std.specs.Prelude.{◌≡◌, ◌<◌, ◌↔◌, [], ◌++◌, All, IfOk, IfErr, OnErr, OnOk, IsNone, IsTrue, false, true, is_ok, if◌then◌else◌, length, map, position};
     ghost use Rattle.std.specs.List.{list_any};
     ghost use Rattle.zr_names.specs.Totals.{plus};
     ghost use Rattle.zr_ledger.specs.Kept.{AllowsSome, HasLimit, IsReplayed, Keeps};
     ghost use Rattle.zr_ledger.specs.Ready.{is_ticket};
     ghost use Rattle.zr_ledger.specs.Steps.{coalesced_from, given_back, is_long, joined_all, nothing};
-    ghost use Rattle.zr_ledger.specs.Turns.{away, finished, here, is_here, turn, turned};
+    ghost use Rattle.zr_ledger.specs.Turns.{away, finished, here, IsIdle, IsOver, IsWaiting, is_here, is_spent, is_work, turn, turned};
 
     /// A ledger with the clock, in which nothing waits and nothing is out. Each job of the job file has its
     /// limit, sinks too.
@@ -85,8 +85,21 @@ impl<C: Drop> Ledger<C> {
     /// clock, waits, or ends.
     pub fn take(&mut self) -> Turn
         ensures answer { result ≡ turn self.old.state self.old.clock }
+
+        // Where something waits and nothing is out, a unit starts, unless all run numbers were given.
+        ensures starts { 0 < length self.old.state.waiting → self.old.state.outs ≡ []
+            → is_spent self.old.state ≡ false → is_work result ≡ true }
+        ensures ticks { (result ≡ Turn.TickYourself) ↔ (IsIdle self.old.state × (self.old.clock ≡ here)) }
+        ensures waits { (result ≡ Turn.Wait) ↔ IsWaiting self.old.state self.old.clock }
+        ensures ended { (result ≡ Turn.Ended) ↔ IsOver self.old.state self.old.clock }
+
         ensures state { self.new.state ≡ turned self.old.state }
         ensures clock { self.new.clock ≡ self.old.clock }
+        ensures limits { self.new.state.limits ≡ self.old.state.limits }
+
+        // The run number and those taken may rise; no other number moves.
+        ensures counts { self.new.state.counts ≡ record self.old.state.counts {
+            given = self.new.state.counts.given; taken = self.new.state.counts.taken } }
     {
         if self.counts.given == u64::MAX {
             return Turn::Ended;
@@ -109,6 +122,14 @@ impl<C: Drop> Ledger<C> {
         ensures state { self.new.state
             ≡ given_back (position (is_ticket ticket) self.old.state.outs) outcome.now self.old.state }
         ensures clock { self.new.clock ≡ self.old.clock }
+        ensures limits { self.new.state.limits ≡ self.old.state.limits }
+
+        // Only the totals may rise, and of these neither what is due nor what was coalesced.
+        ensures counts { self.new.state.counts
+            ≡ record self.old.state.counts { totals = self.new.state.counts.totals } }
+        ensures due { self.new.state.counts.totals.due ≡ self.old.state.counts.totals.due }
+        ensures coalesced { self.new.state.counts.totals.coalesced
+            ≡ self.old.state.counts.totals.coalesced }
     {
         match place_of(self.outs.as_slice(), &ticket) {
             Some(place) => {
@@ -140,6 +161,15 @@ impl<C: Drop> Ledger<C> {
         ensures history { OnOk result (self.new.history
             ≡ (if is_long self.old.history then [] else self.old.history) ++ map Entry.Add units.items) }
         ensures clock { self.new.clock ≡ self.old.clock }
+        ensures limits { self.new.state.limits ≡ self.old.state.limits }
+
+        // What is due rises by the number of units, and what was coalesced by the answer; no other total moves.
+        ensures totals { IfOk result (λ n. self.new.state.counts.totals ≡ record self.old.state.counts.totals {
+            due = plus self.old.state.counts.totals.due (length units.items);
+            coalesced = plus self.old.state.counts.totals.coalesced n }) }
+        ensures counts { self.new.state.counts ≡ record self.old.state.counts {
+            totals = self.new.state.counts.totals; accepted = self.new.state.counts.accepted;
+            coalesced = self.new.state.counts.coalesced } }
         ensures err { OnErr result (self.new ≡ self.old) }
     {
         let alloc = *self.history.allocator();
@@ -207,6 +237,7 @@ impl Ledger<()> {
     pub fn recall(&mut self) -> u64
         ensures answer { result ≡ length self.old.state.outs }
         ensures state { self.new.state ≡ recalled self.old.state }
+        ensures counts { self.new.state.counts ≡ self.old.state.counts }
         ensures clock { self.new.clock ≡ here }
     {
         self.clock = Some(());

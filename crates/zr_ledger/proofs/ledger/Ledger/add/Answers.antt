@@ -1,4 +1,4 @@
-use Rattle.std.proofs.Common.{◌≡◌, ◌+◌, ◌*◌, ◌≤◌, [], List, Option, All, MatchOption, ap, ap₂, arith, length, subst, sym, vec_capacity, ◌∙◌}
+use Rattle.std.proofs.Common.{rules, ◌≡◌, ◌+◌, ◌*◌, ◌≤◌, [], List, Option, All, MatchOption, ap, ap₂, arith, length, subst, sym, vec_capacity, ◌∙◌}
 use Rattle.zr_names.specs.declared.unit.Unit.{Unit}
 use Rattle.zr_ledger.specs.Kept.{HasLimit, Seen}
 use Rattle.zr_ledger.specs.Out.{Out}
@@ -6,6 +6,7 @@ use Rattle.zr_ledger.specs.Steps.{is_long, joined_all, next_base, standing}
 use Rattle.zr_ledger.specs.declared.limits.Limits.{Limits}
 use Rattle.zr_ledger.specs.declared.state.Entry.{Entry}
 use Rattle.zr_ledger.specs.declared.state.State.{State}
+use Rattle.zr_ledger.proofs.Counting.{counts-added, totals-added}
 use Rattle.zr_ledger.proofs.Holding.{anew, holds-added}
 use Rattle.zr_ledger.proofs.ledger.Ledger.add.Goals as goal
 
@@ -32,3 +33,16 @@ invariant_of-self-2 g c =
     let anew_room = c.begin_anew.ensures.room in
     let all_room = all.history_room in
     holds-added here.base c.begin_anew.new.base here.history.items c.begin_anew.new.history.items _ s _ spares _ _ _ _ c.self.invariant begun.0 all.history is has (omega arith) (omega arith)
+
+pub returns-clause-totals : goal.returns-clause-totals
+returns-clause-totals g c =
+    let here = c.self.inside in
+    let before = ap (λ (seen : Seen). seen.state.counts) c.self.view_is in
+    let due = c.self.ranges in
+    totals-added (standing here.limits c.reserve_all.new.waiting.units c.as_slice-4.result.now here.counts) (standing here.limits c.join_all.new.waiting.units c.as_slice-4.result.now c.join_all.new.counts) c.in_ok-spares.spares.items c.args.units.items c.args.self.now.state.counts c.join_all.result c.join_all.ensures.state c.join_all.ensures.answer before c.in_ok-spares.ensures (search rules) (search rules)
+
+pub returns-clause-counts : goal.returns-clause-counts
+returns-clause-counts g c =
+    let here = c.self.inside in
+    let before = ap (λ (seen : Seen). seen.state.counts) c.self.view_is in
+    counts-added (standing here.limits c.reserve_all.new.waiting.units c.as_slice-4.result.now here.counts) (standing here.limits c.join_all.new.waiting.units c.as_slice-4.result.now c.join_all.new.counts) c.in_ok-spares.spares.items c.args.self.now.state.counts c.join_all.ensures.state before
