@@ -1,7 +1,10 @@
 pub mod Answering
 pub mod Counting
 pub mod Holding
+pub mod Indexing
 pub mod Keeping
+pub mod Lines
+pub mod Lookups
 pub mod Numbers
 pub mod Replays
 pub mod SeatTests

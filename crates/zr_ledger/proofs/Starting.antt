@@ -18,7 +18,7 @@ use Rattle.zr_ledger.specs.declared.limits.Limits.{Limits}
 use Rattle.zr_ledger.specs.declared.state.State.{State}
 
 -- where none passes the wider test, none passes the narrower
-none-within : {X : Type 0} (p q : X → Bool) (xs : List X) → ((x : X) → p x ≡ true → q x ≡ true) → list_any q xs ≡ false → list_any p xs ≡ false
+pub none-within : {X : Type 0} (p q : X → Bool) (xs : List X) → ((x : X) → p x ≡ true → q x ≡ true) → list_any q xs ≡ false → list_any p xs ≡ false
 none-within p q xs within none =
     false_from_ne_true (list_any p xs) (λ some.
     let at = Any-from_list_any p xs some in

@@ -1,6 +1,6 @@
 //! What `add` does: it takes all memory first, so that nothing can fail once the first unit is added.
 
-ghost use Rattle.std.specs.Prelude.{◌≡◌, ◌+◌, ◌-◌, ◌*◌, ◌<◌, ◌≤◌, [], ◌∷◌, ◌++◌, IfOk, IfSome, OnOk, MatchOption, if◌then◌else◌, length, List, map};
+ghost use Rattle.std.specs.Prelude.{◌≡◌, ◌+◌, ◌-◌, ◌*◌, ◌<◌, ◌≤◌, [], ◌∷◌, ◌++◌, All, IfOk, IfSome, OnOk, MatchOption, if◌then◌else◌, length, List, map};
 ghost use Rattle.std.specs.Vec.{vec_capacity, vec_len};
 ghost use Rattle.zr_names.specs.declared.unit.Unit.{Unit as TheUnit};
 ghost use Rattle.zr_ledger.specs.Queue.{HasRoomFor};
@@ -41,8 +41,10 @@ pub(crate) fn reserve_all(
     waiting: &mut Queue,
     outs: &mut Vec<Ticket>,
     history: &mut Vec<Entry>,
+    jobs: usize,
     units: &[Spare],
 ) -> Result<(), NoMemory>
+    requires { All (λ unit. unit.job < jobs) units.now }
     ensures waiting { waiting.new.units ≡ waiting.old.units }
     ensures outs { outs.new.items ≡ outs.old.items }
     ensures history { history.new.items ≡ history.old.items }
@@ -61,7 +63,7 @@ pub(crate) fn reserve_all(
     let Some(entries) = entries_of(waiting.len(), outs.len(), units.len()) else {
         return Err(NoMemory);
     };
-    waiting.reserve(units)?;
+    waiting.reserve(jobs, units)?;
     outs.reserve(starts)?;
     history.reserve(entries)?;
     Ok(())

@@ -71,7 +71,7 @@ impl<C: Drop> Ledger<C> {
         };
         Ok(Ledger {
             limits,
-            waiting: Queue::new(alloc),
+            waiting: Queue::new(alloc)?,
             outs: Vec::new(alloc),
             counts: Counts::none(),
             base,
@@ -186,6 +186,7 @@ impl<C: Drop> Ledger<C> {
             &mut self.waiting,
             &mut self.outs,
             &mut self.history,
+            self.limits.steps.len(),
             spares.as_slice(),
         )?;
         begin_anew(&mut self.base, &mut self.history, next);

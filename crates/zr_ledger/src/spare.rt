@@ -34,6 +34,12 @@ impl Spare {
         Ok(Spare { unit, twin, noted })
     }
 
+    pub(crate) fn job(&self) -> usize
+        ensures { result ≡ self.now.job }
+    {
+        self.unit.job as usize
+    }
+
     pub(crate) fn into_parts(self) -> (Unit, Unit, Unit)
         ensures unit { result.0 ≡ self }
         ensures twin { result.1 ≡ self }
