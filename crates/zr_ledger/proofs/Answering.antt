@@ -1,5 +1,5 @@
 -- When a turn is the end.
-use Rattle.std.proofs.Common.{◌≡◌, ◌==◌, ◌<◌, ℕ, Bool, true, false, cond, List, [], None, ap, ap₂, arith, length, refl, subst, sym, ◌∙◌, inl, inr, ⊎_elim}
+use Rattle.std.proofs.Common.{◌≡◌, ◌==◌, ◌<◌, Bool, true, false, cond, List, [], None, ap, ap₂, arith, length, refl, sym, ◌∙◌, inr, ⊎_elim}
 use Rattle.std.proofs.lemmas.Bool.{eqb-true, false≢true}
 use Rattle.std.proofs.lemmas.List.{nil_from_length}
 use Rattle.zr_ledger.specs.Kept.{Keeps}
@@ -8,7 +8,7 @@ use Rattle.zr_ledger.specs.Ready.{first_ready}
 use Rattle.zr_ledger.specs.Turns.{IsOver, Place, away, finished, here, idle, is_spent}
 use Rattle.zr_ledger.specs.declared.state.State.{State}
 use Rattle.zr_ledger.specs.declared.ticket.Turn.{Turn}
-use Rattle.zr_ledger.specs.declared.ticket.Turn.TheVariants.{Ended, TickYourself, Wait}
+use Rattle.zr_ledger.specs.declared.ticket.Turn.TheVariants.{Ended, Wait}
 use Rattle.zr_ledger.proofs.Starting.{none-waits}
 
 none-out : (none : Bool) (outs : List Out) → (length outs == 0) ≡ none → cond none Ended Wait ≡ Ended → outs ≡ []

@@ -1,5 +1,5 @@
 -- Which numbers an add moves.
-use Rattle.std.proofs.Common.{◌≡◌, ◌+◌, ◌-◌, ◌^◌, ◌≤◌, ℕ, Bool, true, false, List, [], ◌∷◌, ap, ap₂, arith, length, refl, subst, sym, ◌∙◌}
+use Rattle.std.proofs.Common.{◌≡◌, ◌+◌, ◌-◌, ◌^◌, ◌≤◌, ℕ, Bool, true, false, List, [], ◌∷◌, ap, ap₂, arith, length, refl, sym, ◌∙◌}
 use Rattle.zr_names.specs.Totals.{plus}
 use Rattle.zr_names.specs.declared.totals.Totals.{Totals}
 use Rattle.zr_names.specs.declared.unit.Unit.{Unit}

@@ -1,5 +1,5 @@
 -- What a ledger keeps of its parts, after each call.
-use Rattle.std.proofs.Common.{◌≡◌, ◌==◌, ◌+◌, ◌*◌, ◌<◌, ◌≤◌, ℕ, Bool, true, false, cond, List, [], ◌∷◌, ◌++◌, Option, Some, None, All, MatchOption, length, map, position, remove, slice_get, refl, sym, ap, ◌∙◌, subst, arith, length-append}
+use Rattle.std.proofs.Common.{◌≡◌, ◌==◌, ◌+◌, ◌*◌, ◌<◌, ◌≤◌, ℕ, Bool, true, false, cond, List, [], ◌∷◌, ◌++◌, Option, Some, All, MatchOption, length, map, position, remove, slice_get, refl, sym, ap, ◌∙◌, subst, arith, length-append}
 use Rattle.std.proofs.lemmas.Bool.{eqb-false, eqb-true}
 use Rattle.std.proofs.lemmas.List.{length-map, length_push, nil_from_length}
 use Rattle.std.proofs.lemmas.List.Edits.{length-remove}
@@ -121,7 +121,7 @@ room-added s now begun more units outs_now history_now is grown outs_room histor
 pub holds-added : (base base_now : State) (history begun more : List Entry) (s now : State) (units : List Unit) (outs_room history_room outs_now history_now : ℕ) → Holds base history s outs_room history_room → replay base_now begun ≡ s → more ≡ begun ++ map Add units → now ≡ joined_all s units → All (HasLimit s.limits) units → length s.waiting + length s.outs + length units ≤ outs_now → length begun + (3 * length units + (2 * length s.waiting + length s.outs)) ≤ history_now → Holds base_now more now outs_now history_now
 holds-added base base_now history begun more s now units outs_room history_room outs_now history_now holds begins grown is has outs_in history_in = record {
   replayed = ap (replay base_now) grown ∙ replay-append base_now begun (map Add units)
-    ∙ ap (λ (x : State). replay x (map Add units)) begins ∙ replay-adds s units ∙ sym is;
+      ∙ ap (λ (x : State). replay x (map Add units)) begins ∙ replay-adds s units ∙ sym is;
   keeps = subst Keeps (sym is) (keeps-joined_all s units holds.keeps has);
   has_room = room-added s now begun more units outs_now history_now is grown outs_in history_in;
 }

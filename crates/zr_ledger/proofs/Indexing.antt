@@ -1,17 +1,15 @@
 -- The lines of the jobs and the counts of snapshots, as a unit comes and goes.
-use Rattle.std.proofs.Common.{◌≡◌, ◌==◌, ◌&&◌, ◌+◌, ◌-◌, ◌<◌, ◌≤◌, ℕ, suc, Bool, true, false, cond, List, [], ◌∷◌, ◌++◌, All, count_by, drop, filter, get_or, length, map, remove, set, slice_get, slice_index, Some, take, refl, sym, ap, ◌∙◌, subst, arith, append-nil, ltb, replicate, inl, inr, ⊎_elim}
-use Rattle.std.specs.List.{list_any}
-use Rattle.std.proofs.lemmas.Bool.{and_parts, cases_eq, cases_lt, cond-false, cond-true, eq-eqb, eqb-true, ne_eqb}
+use Rattle.std.proofs.Common.{◌≡◌, ◌+◌, ◌<◌, ◌≤◌, ℕ, Bool, cond, List, [], ◌∷◌, ◌++◌, All, count_by, filter, get_or, length, map, remove, set, slice_get, slice_index, Some, take, refl, sym, ap, ◌∙◌, subst, arith, append-nil, replicate, ⊎_elim}
+use Rattle.std.proofs.lemmas.Bool.{cases_eq, cases_lt, cond-false, cond-true, eq-eqb, ne_eqb}
 use Rattle.std.proofs.lemmas.Option.{get_or_from_slice_get}
 use Rattle.std.proofs.lemmas.List.Elements.{All-head, All-tail}
-use Rattle.std.proofs.lemmas.List.{get_or-map, get_or-replicate, length-replicate, get_or_append_left, get_or_push, length_push, map-append, get_or-set_other, get_or-set_same, get_or_past, length-map, length-set, map-set}
+use Rattle.std.proofs.lemmas.List.{get_or-map, get_or-replicate, length-replicate, get_or_append_left, get_or_push, length_push, map-append, get_or-set_other, get_or-set_same, get_or_past, length-map, map-set}
 use Rattle.zr_names.specs.declared.unit.Unit.{Unit}
-use Rattle.zr_names.specs.declared.unit.Work.{Work}
-use Rattle.zr_ledger.specs.Index.{CountsSnaps, HoldsLines, IsIndexed, is_snap_in, line_at, rooms_of}
-use Rattle.zr_ledger.specs.Queue.{HasRoomFor, Lined, Queued, is_of_job}
+use Rattle.zr_ledger.specs.Index.{HoldsLines, IsIndexed, is_snap_in, line_at, rooms_of}
+use Rattle.zr_ledger.specs.Queue.{HasRoomFor, Lined, is_of_job}
 use Rattle.zr_ledger.specs.Seats.{is_scan}
 use Rattle.zr_ledger.specs.declared.slots.TheConstants.{SLOTS}
-use Rattle.zr_ledger.proofs.Lines.{any-filter, filter-push, filter-remove, filter-remove_other, filter-there}
+use Rattle.zr_ledger.proofs.Lines.{filter-push, filter-remove, filter-remove_other, filter-there}
 use Rattle.zr_ledger.proofs.Steady.{count_by-cons, count_by-push, count_by-remove}
 
 abbrev units_of : Lined → List Unit
@@ -88,18 +86,18 @@ pub room-push : (units more : List Unit) (lines : List Lined) (room left : ℕ) 
 room-push units more lines room left line now unit within is fewer less rest has = record {
   order = let a = has.order in omega arith;
   lines = λ job.
-  let a = has.lines job in
-  let b = count_by-cons (is_of_job job) unit rest in
-  ⊎_elim
-  (λ (same : job ≡ unit.job).
-  let c : ◌≡◌ {A = ℕ} (cond (is_of_job job unit) 1 0) 1 = cond-true (is_of_job job unit) 1 0 (eq-eqb unit.job job (sym same)) in
-  let d = subst (λ (j : ℕ). slice_index (rooms_of (set lines unit.job now)) j ≡ now.room) (sym same) (room-written lines unit.job now within) in
-  let e = subst (λ (j : ℕ). slice_index (rooms_of lines) j ≡ line.room) (sym same) (room-there lines unit.job line within is) in
-  omega (arith, b, c, d, e))
-  (λ (differ : job ≡ unit.job → ⊥).
-  let d = room-other lines unit.job job now differ in
-  omega arith)
-  (cases_eq job unit.job);
+      let a = has.lines job in
+      let b = count_by-cons (is_of_job job) unit rest in
+      ⊎_elim
+      (λ (same : job ≡ unit.job).
+      let c : ◌≡◌ {A = ℕ} (cond (is_of_job job unit) 1 0) 1 = cond-true (is_of_job job unit) 1 0 (eq-eqb unit.job job (sym same)) in
+      let d = subst (λ (j : ℕ). slice_index (rooms_of (set lines unit.job now)) j ≡ now.room) (sym same) (room-written lines unit.job now within) in
+      let e = subst (λ (j : ℕ). slice_index (rooms_of lines) j ≡ line.room) (sym same) (room-there lines unit.job line within is) in
+      omega (arith, b, c, d, e))
+      (λ (differ : job ≡ unit.job → ⊥).
+      let d = room-other lines unit.job job now differ in
+      omega arith)
+      (cases_eq job unit.job);
 }
 
 -- a line that keeps its units
@@ -193,9 +191,10 @@ pub rank-there : (lines : List Lined) (order : List Unit) (place : ℕ) (line : 
 rank-there lines order place line unit d holds within there is =
     let inside = unit-inside lines order place unit holds within there in
     let kept = filter-there (is_of_job unit.job) order place unit d within there (eq-eqb unit.job unit.job refl) in
-    let same = sym (holds unit.job) ∙ line-there lines unit.job line inside is in
-    (subst (λ (us : List Unit). count_by (is_of_job unit.job) (take place order) < length us) same kept.0,
-     subst (λ (us : List Unit). get_or us (count_by (is_of_job unit.job) (take place order)) d ≡ unit) same kept.1)
+    let same = sym (holds unit.job) ∙ line-there lines unit.job line inside is in (
+      subst (λ (us : List Unit). count_by (is_of_job unit.job) (take place order) < length us) same kept.0,
+      subst (λ (us : List Unit). get_or us (count_by (is_of_job unit.job) (take place order)) d ≡ unit) same kept.1,
+    )
 
 -- so its twin is the unit itself
 pub twin-there : (lines : List Lined) (order : List Unit) (place rank : ℕ) (line : Lined) (unit twin : Unit) → HoldsLines lines order → place < length order → get_or order place unit ≡ unit → line ≡ get_or lines unit.job line → rank ≡ count_by (is_of_job unit.job) (take place order) → slice_get line.units rank ≡ Some twin → twin ≡ unit

@@ -1,10 +1,9 @@
 -- Each step keeps what is true of the state of every ledger.
-use Rattle.std.proofs.Common.{◌≡◌, ◌≢◌, ◌==◌, ◌&&◌, ◌||◌, not, ◌+◌, ◌*◌, ◌<◌, ◌≤◌, ℕ, Bool, true, false, cond, List, [], ◌∷◌, ◌++◌, Option, Some, None, All, AllPairs, count_by, get_or, length, position, remove, slice_get, slice_index, refl, sym, ap, ◌∙◌, subst, arith, rules, ltb}
+use Rattle.std.proofs.Common.{◌≡◌, ◌≢◌, ◌==◌, ◌&&◌, not, ◌+◌, ◌<◌, ℕ, Bool, true, false, cond, List, [], ◌∷◌, ◌++◌, Some, All, AllPairs, count_by, get_or, length, remove, slice_get, slice_index, refl, sym, ap, ◌∙◌, subst, arith, ltb}
 use Rattle.std.proofs.lemmas.Bool.{and_parts, eqb-true, false≢true, ltb-true, not-true}
-use Rattle.std.proofs.lemmas.List.Edits.{length-remove}
 use Rattle.std.proofs.lemmas.List.Elements.{All-get_or, All-head, All-nil, All-push, All-tail}
 use Rattle.std.proofs.lemmas.List.Quantifiers.{all_pairs_push, all_pairs_remove, position-Some}
-use Rattle.std.proofs.lemmas.Option.{get_or_from_slice_get, slice_get_within}
+use Rattle.std.proofs.lemmas.Option.{get_or_from_slice_get}
 use Rattle.zr_names.specs.Totals.{plus}
 use Rattle.zr_names.specs.declared.outcome.Outcome.{Outcome}
 use Rattle.zr_names.specs.declared.unit.Unit.{Unit}
@@ -52,9 +51,10 @@ free-within limits waiting outs job (Replicate path) is free =
 -- so fewer are out than each of the two allows
 free-below : (limits : Limits) (waiting : List Unit) (outs : List Out) (job : ℕ) (work : Work) → is_free limits waiting outs job work ≡ true → is_replicate work ≡ true → (count_out (is_replicate_of job) outs < slice_index limits.steps job) × (count_out (λ (unit : Unit). is_replicate unit.work) outs < limits.replicators)
 free-below limits waiting outs job work free is =
-    let both = and_parts (ltb (count_out (is_replicate_of job) outs) (slice_index limits.steps job)) (ltb (count_out (λ (unit : Unit). is_replicate unit.work) outs) limits.replicators) (free-within limits waiting outs job work is free) in
-    (ltb-true (count_out (is_replicate_of job) outs) (slice_index limits.steps job) both.0,
-     ltb-true (count_out (λ (unit : Unit). is_replicate unit.work) outs) limits.replicators both.1)
+    let both = and_parts (ltb (count_out (is_replicate_of job) outs) (slice_index limits.steps job)) (ltb (count_out (λ (unit : Unit). is_replicate unit.work) outs) limits.replicators) (free-within limits waiting outs job work is free) in (
+      ltb-true (count_out (is_replicate_of job) outs) (slice_index limits.steps job) both.0,
+      ltb-true (count_out (λ (unit : Unit). is_replicate unit.work) outs) limits.replicators both.1,
+    )
 
 -- the same of a job's own
 free-of : (limits : Limits) (waiting : List Unit) (outs : List Out) (unit : Unit) (job : ℕ) → is_free limits waiting outs unit.job unit.work ≡ true → is_replicate_of job unit ≡ true → count_out (is_replicate_of job) outs < slice_index limits.steps job
@@ -104,7 +104,7 @@ keeps-ready s place out keeps within is run ready =
       allows = keeps.allows;
       waiting = All-remove (HasLimit s.limits) s.waiting place keeps.waiting;
       outs = All-push (λ (other : Out). HasLimit s.limits other.unit) s.outs out keeps.outs
-        (subst (HasLimit s.limits) is (All-get_or (HasLimit s.limits) s.waiting place out.unit within keeps.waiting));
+          (subst (HasLimit s.limits) is (All-get_or (HasLimit s.limits) s.waiting place out.unit within keeps.waiting));
       seats = seats-push s.outs out (not-true (is_out (λ other. same_seat (seat_of out.unit) (seat_of other)) s.outs) both.0) keeps.seats;
       limits = limits-push s.limits s.waiting s.outs out both.1 keeps.limits;
       numbers = λ work. numbers-taken s place out.unit work keeps within is;

@@ -10,3 +10,4 @@ pub mod Replays
 pub mod SeatTests
 pub mod Starting
 pub mod Steady
+pub mod Telling

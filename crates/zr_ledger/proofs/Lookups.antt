@@ -1,5 +1,5 @@
 -- What a look-up in the index tells of the whole list.
-use Rattle.std.proofs.Common.{◌≡◌, ◌==◌, ◌&&◌, ◌||◌, ◌+◌, ◌<◌, ℕ, Bool, true, false, cond, List, [], ◌∷◌, ap, arith, count_by, filter, ltb, refl, sym, ◌∙◌}
+use Rattle.std.proofs.Common.{◌≡◌, ◌==◌, ◌&&◌, ◌||◌, ◌+◌, ℕ, Bool, true, false, cond, List, [], ◌∷◌, ap, arith, count_by, filter, ltb, refl, sym, ◌∙◌}
 use Rattle.std.specs.List.{list_any}
 use Rattle.std.specs.Cmp.Lexicographic.{bytes_decides}
 use Rattle.std.proofs.lemmas.Bool.{and_parts, eq-eqb, eqb-true, false≢true, lt-ltb, true≢false}
@@ -9,7 +9,7 @@ use Rattle.zr_names.specs.declared.unit.Work.{Work}
 use Rattle.zr_names.specs.declared.unit.Work.TheVariants.{Scan, Parents, Snap, Replicate, PruneSource, PruneTarget}
 use Rattle.zr_ledger.specs.Index.{is_snap_in, slot_of}
 use Rattle.zr_ledger.specs.Queue.{is_of_job}
-use Rattle.zr_ledger.specs.Seats.{has_key, is_ancestor_of, is_replicate_above, is_snap, is_snap_of, same_kind, same_seat, same_text, seat_at, seat_of}
+use Rattle.zr_ledger.specs.Seats.{has_key, is_ancestor_of, is_replicate_above, is_snap, is_snap_of, same_kind, same_seat, same_text, seat_at}
 use Rattle.zr_ledger.proofs.Lines.{any-filter}
 use Rattle.zr_ledger.proofs.Starting.{none-within}
 

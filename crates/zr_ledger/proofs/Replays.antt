@@ -1,5 +1,5 @@
 -- A history that grows, and units that are added one after the other.
-use Rattle.std.proofs.Common.{◌≡◌, ℕ, List, [], ◌∷◌, ◌++◌, map, refl, ap, ◌∙◌}
+use Rattle.std.proofs.Common.{◌≡◌, ℕ, List, [], ◌∷◌, ◌++◌, map, refl}
 use Rattle.zr_names.specs.declared.unit.Unit.{Unit}
 use Rattle.zr_ledger.specs.Steps.{after, coalesced_from, is_new, joined, joined_all, replay, with_one}
 use Rattle.zr_ledger.specs.declared.state.Entry.{Entry}

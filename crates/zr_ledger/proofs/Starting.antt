@@ -1,9 +1,9 @@
 -- Where something waits and nothing is out, something is ready.
-use Rattle.std.proofs.Common.{◌≡◌, ◌==◌, ◌&&◌, ◌||◌, not, ◌+◌, ◌<◌, ◌≤◌, ℕ, suc, zero, Bool, true, false, cond, List, [], ◌∷◌, Option, Some, None, All, Any, get_or, length, position, slice_index, refl, sym, ap, ◌∙◌, subst, arith, ltb, nat_eq, take, inl, inr, ⊎_elim, is_some}
+use Rattle.std.proofs.Common.{◌≡◌, ◌==◌, ◌&&◌, not, ◌<◌, ◌≤◌, ℕ, suc, zero, Bool, true, false, List, [], ◌∷◌, Some, None, All, get_or, length, position, slice_index, refl, sym, ◌∙◌, subst, arith, ltb, nat_eq, ⊎_elim}
 use Rattle.std.specs.List.{list_any, position_or_len, starts_with}
 use Rattle.std.proofs.lemmas.List.Sums.{fails_before_first}
 use Rattle.std.proofs.lemmas.Option.{none-some}
-use Rattle.std.proofs.lemmas.Bool.{and_from, and_parts, cases_Bool, cond-true, cases_lt, or_left, true≢false, false_from_ne_true, false≢true, le-ltb, lt-ltb, ltb-false, ltb-true, or_from, or_parts, not_from_false, eqb-true}
+use Rattle.std.proofs.lemmas.Bool.{and_from, and_parts, cases_Bool, cond-true, cases_lt, or_left, true≢false, false_from_ne_true, false≢true, lt-ltb, ltb-true, or_from, or_parts, not_from_false, eqb-true}
 use Rattle.std.proofs.lemmas.List.{get_or_past, nil_from_length}
 use Rattle.std.proofs.lemmas.List.Folds.{Any-from_list_any, list_any_at}
 use Rattle.std.proofs.lemmas.List.Quantifiers.{position-Some}
@@ -12,7 +12,7 @@ use Rattle.zr_names.specs.declared.unit.Work.{Work}
 use Rattle.zr_names.specs.declared.unit.Work.TheVariants.{Scan, Parents, Snap, Replicate, PruneSource, PruneTarget}
 use Rattle.zr_ledger.specs.Kept.{AllowsSome, HasLimit, Keeps}
 use Rattle.zr_ledger.specs.Out.{Out}
-use Rattle.zr_ledger.specs.Ready.{first_ready, is_free, is_live, is_ready, is_within}
+use Rattle.zr_ledger.specs.Ready.{first_ready, is_free, is_live, is_ready}
 use Rattle.zr_ledger.specs.Seats.{has_key, is_ancestor_of, is_replicate, is_replicate_above, is_scan, is_snap_of, lies_below, same_kind, same_seat, seat_at, seat_of}
 use Rattle.zr_ledger.specs.declared.limits.Limits.{Limits}
 use Rattle.zr_ledger.specs.declared.state.State.{State}

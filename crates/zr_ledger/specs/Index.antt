@@ -24,7 +24,7 @@ is_snap_in slot (PruneTarget path) = false
 pub record CountsSnaps (snaps : List ℕ) (order : List Unit) : Type 0 where
   pub slots : length snaps ≡ SLOTS
   pub counts : (slot : ℕ) → slot < SLOTS →
-    slice_index snaps slot ≡ count_by (λ unit. is_snap_in slot unit.work) order
+      slice_index snaps slot ≡ count_by (λ unit. is_snap_in slot unit.work) order
 
 -- the units of a job, as its line has them
 abbrev pub line_at : List Lined → ℕ → List Unit

@@ -32,7 +32,7 @@ HasLimit limits unit = unit.job < length limits.steps
 -- as many replications are out as the limits allow, or fewer
 pub record IsWithinLimits (limits : Limits) (outs : List Out) : Type 0 where
   pub steps : (job : ℕ) → job < length limits.steps →
-    count_out (is_replicate_of job) outs ≤ slice_index limits.steps job
+      count_out (is_replicate_of job) outs ≤ slice_index limits.steps job
   pub replicators : count_out (λ unit. is_replicate unit.work) outs ≤ limits.replicators
 
 -- what is true of the state of every ledger
@@ -46,7 +46,7 @@ pub record Keeps (s : State) : Type 0 where
   pub limits : IsWithinLimits s.limits s.outs
   -- of each kind, the accepted units are those taken and those waiting; a number at its end stays there
   pub numbers : (work : Work) → number_of work s.counts.accepted
-    ≡ plus (number_of work s.counts.taken) (count_by (λ unit. same_kind work unit.work) s.waiting)
+      ≡ plus (number_of work s.counts.taken) (count_by (λ unit. same_kind work unit.work) s.waiting)
 
 -- the room that later calls need is there: for each unit that waits, among those that are out and for two
 -- entries, and for each unit that is out, for the entry of its end

@@ -40,13 +40,30 @@ no_kinds = record { scan = 0; parents = 0; snap = 0; replicate = 0; prune_source
 
 abbrev pub no_totals : Totals
 no_totals = record {
-  due = 0; done = 0; coalesced = 0; taken = 0; fresh = 0; steps = 0; uptodate = 0; conflicts = 0;
-  destroyed = 0; busy = 0; placeholders = 0; toolong = 0; faults = 0; garbled = 0; nomemory = 0;
+  due = 0;
+  done = 0;
+  coalesced = 0;
+  taken = 0;
+  fresh = 0;
+  steps = 0;
+  uptodate = 0;
+  conflicts = 0;
+  destroyed = 0;
+  busy = 0;
+  placeholders = 0;
+  toolong = 0;
+  faults = 0;
+  garbled = 0;
+  nomemory = 0;
 }
 
 abbrev pub no_counts : Counts
 no_counts = record {
-  given = 0; totals = no_totals; accepted = no_kinds; taken = no_kinds; coalesced = no_kinds;
+  given = 0;
+  totals = no_totals;
+  accepted = no_kinds;
+  taken = no_kinds;
+  coalesced = no_kinds;
 }
 
 -- a state by its parts

@@ -55,7 +55,7 @@ pub(crate) fn reserve_all(
         (length waiting.old.units + length outs.old.items + length units.now ≤ vec_capacity outs.new) }
     ensures history_ok { OnOk result
         (length history.old.items + (3 * length units.now + (2 * length waiting.old.units + length outs.old.items))
-            ≤ vec_capacity history.new) }
+        ≤ vec_capacity history.new) }
 {
     let Some(starts) = waiting.len().checked_add(units.len()) else {
         return Err(NoMemory);

@@ -37,14 +37,15 @@ impl<C> Model for Ledger<C> {
     ghost Value = { Seen };
 
     ghost view = { λ l. record {
-        state = standing l.limits l.waiting.units l.outs.items l.counts;
-        base = l.base;
-        history = l.history.items;
-        clock = place_of l.over (is_some l.clock) } };
+      state = standing l.limits l.waiting.units l.outs.items l.counts;
+      base = l.base;
+      history = l.history.items;
+      clock = place_of l.over (is_some l.clock);
+    } };
 
     ghost invariant = { λ l.
         Holds l.base l.history.items (standing l.limits l.waiting.units l.outs.items l.counts)
-            (vec_capacity l.outs) (vec_capacity l.history) };
+        (vec_capacity l.outs) (vec_capacity l.history) };
 }
 
 impl<C: Drop> Ledger<C> {
@@ -99,7 +100,9 @@ impl<C: Drop> Ledger<C> {
 
         // The run number and those taken may rise; no other number moves.
         ensures counts { self.new.state.counts ≡ record self.old.state.counts {
-            given = self.new.state.counts.given; taken = self.new.state.counts.taken } }
+          given = self.new.state.counts.given;
+          taken = self.new.state.counts.taken;
+        } }
     {
         if self.counts.given == u64::MAX {
             return Turn::Ended;
@@ -165,11 +168,14 @@ impl<C: Drop> Ledger<C> {
 
         // What is due rises by the number of units, and what was coalesced by the answer; no other total moves.
         ensures totals { IfOk result (λ n. self.new.state.counts.totals ≡ record self.old.state.counts.totals {
-            due = plus self.old.state.counts.totals.due (length units.items);
-            coalesced = plus self.old.state.counts.totals.coalesced n }) }
+          due = plus self.old.state.counts.totals.due (length units.items);
+          coalesced = plus self.old.state.counts.totals.coalesced n;
+        }) }
         ensures counts { self.new.state.counts ≡ record self.old.state.counts {
-            totals = self.new.state.counts.totals; accepted = self.new.state.counts.accepted;
-            coalesced = self.new.state.counts.coalesced } }
+          totals = self.new.state.counts.totals;
+          accepted = self.new.state.counts.accepted;
+          coalesced = self.new.state.counts.coalesced;
+        } }
         ensures err { OnErr result (self.new ≡ self.old) }
     {
         let alloc = *self.history.allocator();

@@ -17,6 +17,7 @@ pub use ticket::{Stranger, Ticket, Turn};
 
 mod adding;
 mod counts;
+pub mod laws;
 mod ledger;
 mod limits;
 mod line;

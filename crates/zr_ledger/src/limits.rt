@@ -20,7 +20,11 @@ impl Limits {
     pub(crate) fn steps_of(&self, job: u32) -> u32
         ensures { result ≡ slice_index self.now.steps job }
     {
-        self.steps.as_slice().get(job as usize).copied().unwrap_or(0)
+        self.steps
+            .as_slice()
+            .get(job as usize)
+            .copied()
+            .unwrap_or(0)
     }
 
     /// The same limits in memory of their own.

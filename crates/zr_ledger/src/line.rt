@@ -19,7 +19,9 @@ impl Model for Line {
     ghost Value = { Lined };
 
     ghost view = { λ l. record {
-        units = l.units.items; room = vec_capacity l.units - length l.units.items } };
+      units = l.units.items;
+      room = vec_capacity l.units - length l.units.items;
+    } };
 }
 
 impl Line {

@@ -35,7 +35,8 @@ pub(crate) fn snap_is_out(outs: &[Ticket], path: &Path) -> bool
 pub(crate) fn replicate_is_out(outs: &[Ticket], job: u32, path: &Path) -> bool
     ensures { result ≡ is_out (has_key job (work.Replicate path.now)) outs.now }
 {
-    outs.iter().any(|out| is_replicate_on(job, path, out.unit()))
+    outs.iter()
+        .any(|out| is_replicate_on(job, path, out.unit()))
 }
 
 pub(crate) fn ancestor_is_out(outs: &[Ticket], job: u32, path: &Path) -> bool

@@ -40,9 +40,10 @@ impl Model for Queue {
     ghost Value = { Queued };
 
     ghost view = { λ q. record {
-        units = q.order.items;
-        room = deque_capacity q.order - length q.order.items;
-        rooms = rooms_of q.lines.items } };
+      units = q.order.items;
+      room = deque_capacity q.order - length q.order.items;
+      rooms = rooms_of q.lines.items;
+    } };
 
     ghost invariant = { λ q. IsIndexed q.order.items q.lines.items q.scans q.snaps.items };
 }
@@ -97,7 +98,11 @@ fn key_waits_anywhere(order: &VecDeque<Unit>, unit: &Unit) -> bool
 fn rank_of(order: &VecDeque<Unit>, place: usize, job: u32) -> usize
     ensures { result ≡ count_by (is_of_job job) (take place order.now.items) }
 {
-    order.iter().take(place).filter(|unit| unit.job == job).count()
+    order
+        .iter()
+        .take(place)
+        .filter(|unit| unit.job == job)
+        .count()
 }
 
 /// Lines for so many jobs at least.

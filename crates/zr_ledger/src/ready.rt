@@ -60,13 +60,7 @@ fn is_within(limits: &Limits, outs: &[Ticket], job: u32) -> bool
 }
 
 /// Whether a replication may start. The limits come first, since they cost least.
-fn may_replicate(
-    limits: &Limits,
-    waiting: &Queue,
-    outs: &[Ticket],
-    job: u32,
-    path: &Path,
-) -> bool
+fn may_replicate(limits: &Limits, waiting: &Queue, outs: &[Ticket], job: u32, path: &Path) -> bool
     ensures { result ≡ is_free limits.now waiting.now.units outs.now job (work.Replicate path.now) }
 {
     is_within(limits, outs, job)

@@ -223,7 +223,5 @@ pub(crate) fn has_same_key(unit: &Unit, other: &Unit) -> bool
 pub(crate) fn is_same_unit(unit: &Unit, other: &Unit) -> bool
     ensures { result ≡ same_unit unit.now other.now }
 {
-    unit.job == other.job
-        && unit.moment.ms() == other.moment.ms()
-        && has_same_key(unit, other)
+    unit.job == other.job && unit.moment.ms() == other.moment.ms() && has_same_key(unit, other)
 }

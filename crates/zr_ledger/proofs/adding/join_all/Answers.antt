@@ -1,10 +1,10 @@
-use Rattle.std.proofs.Common.{◌≡◌, ◌+◌, ◌<◌, ◌++◌, ◌∷◌, [], ℕ, Bool, List, drop, get_or, length, map, ap, ap₂, sym, ◌∙◌, append_assoc, arith, rules, subst, add-one}
+use Rattle.std.proofs.Common.{◌≡◌, ◌++◌, ◌∷◌, [], ℕ, List, drop, length, map, ap, ap₂, sym, ◌∙◌, append_assoc, rules, subst}
 use Rattle.std.proofs.lemmas.List.{drop_more, length_push, map_push}
 use Rattle.std.proofs.lemmas.Iterator.Adapters.{YieldsList-from_vec}
 use Rattle.std.proofs.lemmas.Iterator.Consumers.{YieldsList-turn}
 use Rattle.zr_names.specs.declared.unit.Unit.{Unit}
 use Rattle.zr_ledger.specs.Queue.{HasRoomFor}
-use Rattle.zr_ledger.specs.Steps.{coalesced_from, is_new, joined, joined_all, standing, with_one}
+use Rattle.zr_ledger.specs.Steps.{is_new, joined, standing, with_one}
 use Rattle.zr_ledger.specs.declared.state.Entry.{Entry}
 use Rattle.zr_ledger.specs.declared.state.Entry.TheVariants.{Add}
 use Rattle.zr_ledger.specs.declared.state.State.{State}

@@ -1,4 +1,4 @@
-use Rattle.std.proofs.Common.{◌≡◌, ◌+◌, ◌++◌, ℕ, drop, length, map, vec_capacity}
+use Rattle.std.proofs.Common.{◌≡◌, ◌++◌, drop, length, map, vec_capacity}
 use Rattle.zr_ledger.specs.Queue.{HasRoomFor}
 use Rattle.zr_ledger.specs.Steps.{coalesced_from, joined_all, standing}
 use Rattle.zr_ledger.specs.declared.state.Entry.TheVariants.{Add}

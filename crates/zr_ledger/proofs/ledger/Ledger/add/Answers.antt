@@ -1,4 +1,4 @@
-use Rattle.std.proofs.Common.{rules, ◌≡◌, ◌+◌, ◌*◌, ◌≤◌, [], List, Option, All, MatchOption, ap, ap₂, arith, length, subst, sym, vec_capacity, ◌∙◌}
+use Rattle.std.proofs.Common.{rules, ◌≡◌, [], List, All, MatchOption, ap, ap₂, arith, length, subst, sym, ◌∙◌}
 use Rattle.zr_names.specs.declared.unit.Unit.{Unit}
 use Rattle.zr_ledger.specs.Kept.{HasLimit, Seen}
 use Rattle.zr_ledger.specs.Out.{Out}

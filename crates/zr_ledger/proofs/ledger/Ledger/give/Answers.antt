@@ -1,4 +1,4 @@
-use Rattle.std.proofs.Common.{◌≡◌, List, Some, None, position, ap, sym, ◌∙◌}
+use Rattle.std.proofs.Common.{◌≡◌, List, Some, position, ap, sym, ◌∙◌}
 use Rattle.std.specs.List.{list_any}
 use Rattle.zr_ledger.specs.Kept.{Seen}
 use Rattle.zr_ledger.specs.Out.{Out}

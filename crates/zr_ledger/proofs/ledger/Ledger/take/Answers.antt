@@ -31,6 +31,7 @@ returns-in-None-clause-ended g c =
     let same = ap (λ (seen : Seen). seen.state) c.self.view_is in
     let unready : first_ready s.limits s.waiting s.outs ≡ None = search rules in
     let left : is_spent s ≡ false = search rules in
-    let answer : c.idle.result ≡ idle c.args.self.now.clock s.outs = search rules in
-    (over-by s c.args.self.now.clock c.idle.result (subst Keeps same c.self.invariant.keeps) unready answer,
-     ended-by s c.args.self.now.clock c.idle.result left answer)
+    let answer : c.idle.result ≡ idle c.args.self.now.clock s.outs = search rules in (
+      over-by s c.args.self.now.clock c.idle.result (subst Keeps same c.self.invariant.keeps) unready answer,
+      ended-by s c.args.self.now.clock c.idle.result left answer,
+    )

@@ -1,4 +1,4 @@
-use Rattle.std.proofs.Common.{List, ap, ltb, ◌∙◌}
+use Rattle.std.proofs.Common.{ap, ltb, ◌∙◌}
 use Rattle.std.specs.List.{list_any}
 use Rattle.zr_names.specs.declared.unit.Unit.{Unit}
 use Rattle.zr_ledger.specs.Queue.{Queued}

@@ -1,4 +1,4 @@
-use Rattle.std.proofs.Common.{◌≡◌, ◌+◌, ◌-◌, ◌<◌, ◌≤◌, ◌++◌, ◌∷◌, [], List, ap, arith, count_by, deque_capacity, length, slice_index, subst, sym, ◌∙◌}
+use Rattle.std.proofs.Common.{◌-◌, ◌≤◌, ◌++◌, ◌∷◌, [], ap, arith, count_by, deque_capacity, length, slice_index, subst, sym, ◌∙◌}
 use Rattle.std.proofs.lemmas.List.{length_push}
 use Rattle.zr_names.specs.declared.unit.Unit.{Unit}
 use Rattle.zr_ledger.specs.Queue.{HasRoomFor, Queued, is_of_job}

@@ -1,4 +1,4 @@
-use Rattle.std.proofs.Common.{◌≡◌, ◌<◌, ◌≤◌, arith, length}
+use Rattle.std.proofs.Common.{arith}
 use Rattle.zr_ledger.proofs.Indexing.{rooms-all}
 use Rattle.zr_ledger.proofs.queue.Queue.reserve.Goals as goal
 
@@ -9,5 +9,5 @@ returns-clause-ok c =
     record {
       order = let room = c.in_ok-reserve.ensures.ok in omega arith;
       lines = rooms-all c.reserve_lines.new.lines.items c.args.units.now c.args.jobs c.requires (omega arith)
-        (λ job below. c.in_ok-reserve_lines.ensures.ok job (omega arith));
+          (λ job below. c.in_ok-reserve_lines.ensures.ok job (omega arith));
     }
