@@ -2,6 +2,7 @@
 #![tactic(auto)]
 
 mod ends;
+mod ledger;
 mod listing;
 mod relay;
 mod schedule;
@@ -9,7 +10,7 @@ mod schedule;
 use std::process::ExitCode;
 use std::{env, io};
 
-const USAGE: &str = "usage: bench relay|pipe|listing|schedule";
+const USAGE: &str = "usage: bench relay|pipe|listing|schedule|ledger";
 
 /// Runs the benchmark of the first word, and returns the program's status.
 fn run(rt: &HostRuntime) -> io::Result<u8> {
@@ -19,6 +20,7 @@ fn run(rt: &HostRuntime) -> io::Result<u8> {
         Some("pipe") => relay::relay_pipe(rt)?,
         Some("listing") => listing::read_listing(rt)?,
         Some("schedule") => schedule::find_minutes(rt)?,
+        Some("ledger") => ledger::turn_ledger(rt)?,
         _ => {
             println!(rt; "{USAGE}")?;
             return Ok(2);
