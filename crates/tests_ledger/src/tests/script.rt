@@ -3,7 +3,7 @@
 //! `2,1 / 3: take; ..` is a ledger whose jobs 0 and 1 have the limits 2 and 1 under a limit of 3 for all, and
 //! `once` in front has it list once. A unit is its job, its work, its path and its prefix, as `0 snap p a_`.
 
-ghost use Rattle.std.specs.Prelude.{◌≡◌, ◌≤◌, All, IfOk};
+ghost use Rattle.std.specs.Prelude.{◌≤◌, All, IfOk};
 ghost use Rattle.zr_ledger.specs.Kept.{AllowsSome};
 
 use super::lines::Unread;
@@ -115,6 +115,11 @@ fn push_unit(out: &mut String, unit: &Unit) -> Result<(), Unread> {
     Ok(())
 }
 
+fn push_run(out: &mut String, ticket: &Ticket) -> Result<(), Unread> {
+    write!(out, "run {}: ", ticket.run())?;
+    push_unit(out, ticket.unit())
+}
+
 /// A ledger at work: what it handed out, and what it answered.
 #[derive(Drop)]
 struct Desk {
@@ -137,9 +142,9 @@ impl Desk {
     fn take(&mut self) -> Result<(), Unread> {
         match self.ledger.take() {
             Turn::Work(ticket) => {
-                write!(self.out, "run {}: ", ticket.run())?;
-                push_unit(&mut self.out, ticket.unit())?;
+                let pushed = push_run(&mut self.out, &ticket);
                 self.tickets.push(ticket)?;
+                pushed?;
             }
             Turn::TickYourself => self.out.push_str("tick")?,
             Turn::Wait => self.out.push_str("wait")?,
@@ -171,14 +176,8 @@ impl Desk {
 
     /// Gives the ticket of another ledger, with the run number 1.
     fn give_foreign(&mut self) -> Result<(), Unread> {
-        let mut other = Ledger::new(self.alloc, (), limits(self.alloc, "1 / 1")?)?;
-        add(&mut other, units(self.alloc, "0 parents")?)?;
-        match other.take() {
-            Turn::Work(ticket) => self.give(ticket),
-            Turn::TickYourself => Err(Unread),
-            Turn::Wait => Err(Unread),
-            Turn::Ended => Err(Unread),
-        }
+        let ticket = foreign_ticket(self.alloc)?;
+        self.give(ticket)
     }
 
     fn clock(&mut self) -> Result<(), Unread> {
@@ -221,6 +220,40 @@ impl Desk {
         self.push_number(count)
     }
 
+    fn add_one(&mut self) -> Result<(), Unread> {
+        let _coalesced = add(&mut self.ledger, units(self.alloc, "0 scan")?)?;
+        Ok(())
+    }
+
+    /// Adds, takes and gives one scan.
+    fn cycle(&mut self) -> Result<(), Unread> {
+        self.add_one()?;
+        if let Turn::Work(ticket) = self.ledger.take() {
+            let _given = self.ledger.give(ticket, &Outcome::UpToDate);
+        }
+        Ok(())
+    }
+
+    /// One call more, behind those before it.
+    fn answer(&mut self, call: &str) -> Result<(), Unread> {
+        if !self.out.is_empty() {
+            self.out.push_str("; ")?;
+        }
+        self.call(call)
+    }
+
+    fn into_text(self) -> String {
+        let Desk {
+            alloc: _,
+            ledger,
+            tickets,
+            out,
+        } = self;
+        drop(ledger);
+        drop(tickets);
+        out
+    }
+
     fn call(&mut self, call: &str) -> Result<(), Unread> {
         match call.split_once(' ') {
             Some(("add", text)) => self.add(text),
@@ -253,54 +286,32 @@ fn add(ledger: &mut Ledger<()>, units: Vec<Unit>) -> Result<u64, Unread> {
     Ok(ledger.add(units)?)
 }
 
+/// The ticket of a unit of another ledger.
+fn foreign_ticket(alloc: Global) -> Result<Ticket, Unread> {
+    let mut desk = Desk::new(alloc, "1 / 1")?;
+    desk.add("0 parents")?;
+    desk.take()?;
+    desk.tickets.pop().ok_or(Unread)
+}
+
 /// The answers of a line's calls.
 pub fn said(alloc: Global, ask: &str) -> Result<String, Unread> {
     let (text, calls) = ask.split_once(": ").ok_or(Unread)?;
     let mut desk = Desk::new(alloc, text)?;
     for call in calls.split("; ") {
-        if !desk.out.is_empty() {
-            desk.out.push_str("; ")?;
-        }
-        desk.call(call)?;
+        desk.answer(call)?;
     }
-    let Desk {
-        alloc: _,
-        ledger,
-        tickets,
-        out,
-    } = desk;
-    drop(ledger);
-    drop(tickets);
-    Ok(out)
+    Ok(desk.into_text())
 }
 
 /// Adds, takes and gives one scan so many times, and tells of the next.
 pub fn cycles(alloc: Global, times: u32) -> Result<String, Unread> {
-    let mut ledger = Ledger::new(alloc, (), limits(alloc, "1 / 1")?)?;
+    let mut desk = Desk::new(alloc, "1 / 1")?;
     for _ in 0..times {
-        add(&mut ledger, units(alloc, "0 scan")?)?;
-        if let Turn::Work(ticket) = ledger.take() {
-            let _given = ledger.give(ticket, &Outcome::UpToDate);
-        }
+        desk.cycle()?;
     }
-    let mut desk = Desk {
-        alloc,
-        ledger,
-        tickets: Vec::new(alloc),
-        out: String::new(alloc),
-    };
-    desk.call("add 0 scan")?;
-    desk.out.clear();
-    desk.take()?;
-    desk.out.push_str("; ")?;
-    desk.push_totals()?;
-    let Desk {
-        alloc: _,
-        ledger,
-        tickets,
-        out,
-    } = desk;
-    drop(ledger);
-    drop(tickets);
-    Ok(out)
+    desk.add_one()?;
+    desk.answer("take")?;
+    desk.answer("totals")?;
+    Ok(desk.into_text())
 }
