@@ -5,12 +5,13 @@ mod ends;
 mod ledger;
 mod listing;
 mod relay;
+mod rules;
 mod schedule;
 
 use std::process::ExitCode;
 use std::{env, io};
 
-const USAGE: &str = "usage: bench relay|pipe|listing|schedule|ledger";
+const USAGE: &str = "usage: bench relay|pipe|listing|schedule|ledger|rules";
 
 /// Runs the benchmark of the first word, and returns the program's status.
 fn run(rt: &HostRuntime) -> io::Result<u8> {
@@ -21,6 +22,7 @@ fn run(rt: &HostRuntime) -> io::Result<u8> {
         Some("listing") => listing::read_listing(rt)?,
         Some("schedule") => schedule::find_minutes(rt)?,
         Some("ledger") => ledger::turn_ledger(rt)?,
+        Some("rules") => rules::keep_rows(rt)?,
         _ => {
             println!(rt; "{USAGE}")?;
             return Ok(2);
