@@ -10,3 +10,5 @@ pub mod Printed
 pub mod Valid
 pub mod Faults
 pub mod Places
+pub mod Reaches
+pub mod Sweeps

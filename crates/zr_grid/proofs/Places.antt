@@ -1,18 +1,17 @@
--- The slot that the code finds is the one in which an age lies.
-use Rattle.std.proofs.Common.{◌≡◌, ℕ, zero, suc, ◌+◌, ◌-◌, ◌*◌, ◌/◌, ◌<◌, ◌≤◌, Bool, true, false, ◌&&◌, cond, eqb, ltb, leb, List, [], ◌∷◌, ◌++◌, take, sum_by, Option, Some, None, refl, sym, ap, ◌∙◌, arith, zero-add, add-one, drop, get_or, length, drop-cons}
+-- The slots of a grid: their edges, and what the slot of an age decides.
+use Rattle.std.proofs.Common.{◌≡◌, ℕ, zero, suc, ◌+◌, ◌-◌, ◌*◌, ◌<◌, ◌≤◌, Bool, true, false, ◌&&◌, ltb, leb, List, [], ◌∷◌, ◌++◌, take, length, get_or, sum_by, refl, sym, ap, subst, ◌∙◌, inl, inr, arith, zero-add, add_assoc}
 use Rattle.std.specs.Prelude.{replicate}
-use Rattle.std.proofs.lemmas.Bool.{lt-ltb, le-ltb, le-leb, lt-leb, ltb-true, ltb-false, ne_eqb}
+use Rattle.std.proofs.lemmas.Bool.{lt-ltb, le-ltb, le-leb, lt-leb, ltb-true, leb-true, and_parts, and_from, and_right, cases_lt}
 use Rattle.std.proofs.lemmas.Bool.Decides.{nat_tests}
 use Rattle.std.proofs.Math.Bool.{or-false}
-use Rattle.std.proofs.Math.Nat.{div-eq_of_lt, div-eq-sub-div}
-use Rattle.std.proofs.lemmas.List.Sums.{sum_by-cons}
+use Rattle.std.proofs.lemmas.List.{take-take, get_or_past, get_or-append-add, get_or_append_left, get_or-replicate, length-append, length-replicate}
+use Rattle.std.proofs.lemmas.List.Sums.{sum_by-cons, sum_by-take-le}
 use Rattle.zr_grid.specs.declared.grid.Keep.{Keep}
+use Rattle.zr_grid.specs.declared.grid.Keep.TheVariants.{Most}
 use Rattle.zr_grid.specs.declared.grid.Interval.{Interval}
-use Rattle.std.specs.Prelude.{All}
-use Rattle.zr_grid.specs.Grid.{IsInterval}
-use Rattle.zr_grid.specs.declared.kept.GridRow.{GridRow}
-use Rattle.zr_grid.specs.Kept.{age_of, has_room, older_in, slots_keep, Slot, slots, edge, lies_in, some_slot}
-use Rattle.zr_grid.specs.Place.{behind, found, is_place}
+use Rattle.zr_grid.specs.Grid.{total}
+use Rattle.zr_grid.specs.Kept.{has_room, Slot, slots, edge, lies_in, some_slot}
+use Rattle.zr_grid.specs.Sweep.{span_of, no_slot, keep_at}
 
 two_edges : (w left right age : ℕ) → (leb (w + left) age && ltb age (w + right)) ≡ (leb w age && (leb left (age - w) && ltb (age - w) right))
 two_edges w left right age = grind (arith, nat_tests)
@@ -26,32 +25,29 @@ lies_next slot others age place = rw (edge_next slot others place, edge_next slo
 lies_first : (slot : Slot) (others : List Slot) (age : ℕ) → lies_in (slot ∷ others) age 0 ≡ ltb age slot.width
 lies_first slot others age = rw (zero-add slot.width, le-leb 0 age (omega arith)) refl
 
-lies_nowhere : (age place : ℕ) → lies_in [] age place ≡ false
-lies_nowhere age zero = grind (arith, nat_tests)
-lies_nowhere age (suc place) = grind (arith, nat_tests)
+-- ---- an age between the edges of a slot
 
-first_place : (b : Bool) (keep : Keep) (o : Option (ℕ × Keep)) → is_place 0 (cond b (Some (0, keep)) (behind 1 o)) ≡ b
-first_place true keep o = refl
-first_place false keep None = refl
-first_place false keep (Some x) = rw (ne_eqb (1 + x.0) 0 (λ (e : 1 + x.0 ≡ 0). omega arith)) refl
+pub lies_between : (all : List Slot) (age slot : ℕ) → edge all slot ≤ age → age < edge all (suc slot) → lies_in all age slot ≡ true
+lies_between all age slot from below = and_from _ _ (le-leb (edge all slot) age from) (lt-ltb age (edge all (suc slot)) below)
 
-behind_place : (place : ℕ) (o : Option (ℕ × Keep)) → is_place (suc place) (behind 1 o) ≡ is_place place o
-behind_place place None = refl
-behind_place place (Some x) = grind (arith, nat_tests)
+pub edges_of : (all : List Slot) (age slot : ℕ) → lies_in all age slot ≡ true → (edge all slot ≤ age) × (age < edge all (suc slot))
+edges_of all age slot inside =
+    let both = and_parts _ _ inside in
+    (leb-true (edge all slot) age both.0, ltb-true age (edge all (suc slot)) both.1)
 
-later_place : (place : ℕ) (w age : ℕ) (keep : Keep) (o : Option (ℕ × Keep)) (b : Bool) → ltb age w ≡ b → is_place (suc place) (cond b (Some (0, keep)) (behind 1 o)) ≡ (leb w age && is_place place o)
-later_place place w age keep o true e = let lt : age < w = ltb-true age w e in rw (lt-leb w age lt, ne_eqb 0 (suc place) (λ (e : 0 ≡ suc place). omega arith)) refl
-later_place place w age keep o false e = let le : w ≤ age = ltb-false age w e in rw (le-leb w age le) (behind_place place o)
+edges_rise : (all : List Slot) (a b : ℕ) → a ≤ b → edge all a ≤ edge all b
+edges_rise all a b le = subst (λ (xs : List Slot). sum_by (λ (slot : Slot). slot.width) xs ≤ edge all b) (take-take a b all le) (sum_by-take-le (λ (slot : Slot). slot.width) (take b all) a)
 
--- an age lies in the slot that is found, and in no other
-pub place_is : (all : List Slot) (age place : ℕ) → lies_in all age place ≡ is_place place (found all age)
-place_is [] age place = lies_nowhere age place
-place_is (slot ∷ others) age zero = lies_first slot others age ∙ sym (first_place (ltb age slot.width) slot.keep (found others (age - slot.width)))
-place_is (slot ∷ others) age (suc place) =
-    lies_next slot others age place ∙ ap (λ (b : Bool). leb slot.width age && b) (place_is others (age - slot.width) place)
-    ∙ sym (later_place place slot.width age slot.keep (found others (age - slot.width)) (ltb age slot.width) refl)
+-- an age below an edge and one from there on lie in no slot together
+pub parted : (all : List Slot) (slot border low high : ℕ) → lies_in all low slot ≡ true → low < edge all border → edge all border ≤ high → lies_in all high slot ≡ false
+parted all slot border low high inside below above =
+    let edges = edges_of all low slot inside in
+    elim (cases_lt slot border) [
+      | inl before ↦ let rise = edges_rise all (suc slot) border (omega arith) in and_right _ _ (le-ltb high (edge all (suc slot)) (omega (arith, rise, above)))
+      | inr behind ↦ let rise = edges_rise all border slot behind in absurd (omega (arith, rise, edges.0, below))
+    ]
 
--- ---- some slot
+-- ---- the slot of an age decides
 
 some_same : (p q : ℕ → Slot → Bool) (all : List Slot) → ((k : ℕ) (s : Slot) → p k s ≡ q k s) → some_slot p all ≡ some_slot q all
 some_same p q [] h = refl
@@ -61,120 +57,102 @@ some_none : (p : ℕ → Slot → Bool) (all : List Slot) → ((k : ℕ) (s : Sl
 some_none p [] h = refl
 some_none p (slot ∷ others) h = rw (h 0 slot, some_none (λ (k : ℕ). p (suc k)) others (λ k s. h (suc k) s)) refl
 
--- the test at the slot that was found
-abbrev pub at_found : (ℕ → Keep → Bool) → Option (ℕ × Keep) → Bool
-at_found test None = false
-at_found test (Some x) = test x.0 x.1
+room_none : (older : ℕ) → has_room (Most 0) older ≡ false
+room_none older = le-ltb older 0 (omega arith)
 
-behind_found : (test : ℕ → Keep → Bool) (o : Option (ℕ × Keep)) → at_found test (behind 1 o) ≡ at_found (λ (k : ℕ). test (suc k)) o
-behind_found test None = refl
-behind_found test (Some x) = let e : 1 + x.0 ≡ suc x.0 = omega arith in ap (λ (k : ℕ). test k x.1) e
+-- past the last slot there is no room
+pub no_room : (all : List Slot) (slot m n : ℕ) → length all ≤ slot → has_room (keep_at all slot) m ≡ has_room (keep_at all slot) n
+no_room all slot m n past =
+    let none : keep_at all slot ≡ Most 0 = ap (λ (s : Slot). s.keep) (get_or_past all slot no_slot past) in
+    rw none (room_none m ∙ sym (room_none n))
 
-some_step : (test : ℕ → Keep → Bool) (slot : Slot) (others : List Slot) (age : ℕ) (b : Bool) → ltb age slot.width ≡ b
-    → some_slot (λ k s. lies_in others (age - slot.width) k && test (suc k) s.keep) others ≡ at_found (λ (k : ℕ). test (suc k)) (found others (age - slot.width))
-    → some_slot (λ k s. lies_in (slot ∷ others) age k && test k s.keep) (slot ∷ others) ≡ at_found test (cond b (Some (0, slot.keep)) (behind 1 (found others (age - slot.width))))
-some_step test slot others age true e ih =
-    let lt : age < slot.width = ltb-true age slot.width e in
-    let others_no : some_slot (λ k s. lies_in (slot ∷ others) age (suc k) && test (suc k) s.keep) others ≡ false =
-    some_none (λ k s. lies_in (slot ∷ others) age (suc k) && test (suc k) s.keep) others (λ k s. rw (lies_next slot others age k, lt-leb slot.width age lt) refl) in
-    rw (lies_first slot others age, e, others_no) (or-false (test 0 slot.keep))
-some_step test slot others age false e ih =
-    let le : slot.width ≤ age = ltb-false age slot.width e in
-    let others_same : some_slot (λ k s. lies_in (slot ∷ others) age (suc k) && test (suc k) s.keep) others ≡ some_slot (λ k s. lies_in others (age - slot.width) k && test (suc k) s.keep) others =
-    some_same (λ k s. lies_in (slot ∷ others) age (suc k) && test (suc k) s.keep) (λ k s. lies_in others (age - slot.width) k && test (suc k) s.keep) others (λ k s. rw (lies_next slot others age k, le-leb slot.width age le) refl) in
-    rw (lies_first slot others age, e) (others_same ∙ ih ∙ sym (behind_found test (found others (age - slot.width))))
+-- the slot of an age, or past the last one, says whether some slot has the age and room
+pub decided : (all : List Slot) (older : ℕ → ℕ) (age slot : ℕ) → edge all slot ≤ age → (slot < length all → age < edge all (suc slot))
+    → some_slot (λ k s. lies_in all age k && has_room s.keep (older k)) all ≡ has_room (keep_at all slot) (older slot)
+decided [] older age slot from below = sym (room_none (older slot))
+decided (first ∷ others) older age zero from below =
+    let lt : age < first.width = (let next = edge_next first others 0 in let b = below (omega arith) in omega (arith, next, b)) in
+    let none : some_slot (λ k s. lies_in (first ∷ others) age (suc k) && has_room s.keep (older (suc k))) others ≡ false =
+    some_none (λ k s. lies_in (first ∷ others) age (suc k) && has_room s.keep (older (suc k))) others (λ k s. rw (lies_next first others age k, lt-leb first.width age lt) refl) in
+    rw (lies_first first others age, lt-ltb age first.width lt, none) (or-false (has_room first.keep (older 0)))
+decided (first ∷ others) older age (suc slot) from below =
+    let here = edge_next first others slot in
+    let next = edge_next first others (suc slot) in
+    let le : first.width ≤ age = omega (arith, here, from) in
+    let same : some_slot (λ k s. lies_in (first ∷ others) age (suc k) && has_room s.keep (older (suc k))) others ≡ some_slot (λ k s. lies_in others (age - first.width) k && has_room s.keep (older (suc k))) others =
+    some_same (λ k s. lies_in (first ∷ others) age (suc k) && has_room s.keep (older (suc k))) (λ k s. lies_in others (age - first.width) k && has_room s.keep (older (suc k))) others (λ k s. rw (lies_next first others age k, le-leb first.width age le) refl) in
+    let rest = decided others (λ (k : ℕ). older (suc k)) (age - first.width) slot (omega (arith, here, from)) (λ inside. let b = below (omega arith) in omega (arith, next, b)) in
+    rw (lies_first first others age, le-ltb age first.width le) (same ∙ rest)
 
-pub some_is : (all : List Slot) (test : ℕ → Keep → Bool) (age : ℕ) → some_slot (λ k s. lies_in all age k && test k s.keep) all ≡ at_found test (found all age)
-some_is [] test age = refl
-some_is (slot ∷ others) test age = some_step test slot others age (ltb age slot.width) refl (some_is others (λ (k : ℕ). test (suc k)) (age - slot.width))
-
--- ---- many slots of one width
+-- ---- the slots of intervals
 
 abbrev slot_of : ℕ → Keep → Slot
 slot_of w keep = record { width = w; keep = keep }
 
-behind_none : (o : Option (ℕ × Keep)) → behind 0 o ≡ o
-behind_none None = refl
-behind_none (Some x) = rw (zero-add x.0) refl
+edge_past : (c w : ℕ) (keep : Keep) (others : List Slot) (n : ℕ) → edge (replicate c (slot_of w keep) ++ others) (c + n) ≡ c * w + edge others n
+edge_past zero w keep others n = let none : zero + n ≡ n = zero-add n in rw none (omega arith)
+edge_past (suc c) w keep others n =
+    let one : suc c + n ≡ suc (c + n) = omega arith in
+    let ih = edge_past c w keep others n in
+    rw (one, edge_next (slot_of w keep) (replicate c (slot_of w keep) ++ others) (c + n), ih) (omega arith)
 
-behind_twice : (m n k : ℕ) (o : Option (ℕ × Keep)) → m + n ≡ k → behind m (behind n o) ≡ behind k o
-behind_twice m n k None e = refl
-behind_twice m n k (Some x) e = let same : m + (n + x.0) ≡ k + x.0 = omega arith in ap (λ (p : ℕ). Some (p, x.1)) same
+edge_within : (c w : ℕ) (keep : Keep) (others : List Slot) (n : ℕ) → n ≤ c → edge (replicate c (slot_of w keep) ++ others) n ≡ n * w
+edge_within c w keep others zero le = omega arith
+edge_within zero w keep others (suc n) le = absurd (omega arith)
+edge_within (suc c) w keep others (suc n) le =
+    let ih = edge_within c w keep others n (omega arith) in
+    rw (edge_next (slot_of w keep) (replicate c (slot_of w keep) ++ others) n, ih) (omega arith)
 
-behind_cond : (b : Bool) (q c : ℕ) (keep : Keep) (o : Option (ℕ × Keep)) → behind 1 (cond b (Some (q, keep)) (behind c o)) ≡ cond b (Some (suc q, keep)) (behind (suc c) o)
-behind_cond true q c keep o = let e : 1 + q ≡ suc q = omega arith in ap (λ (p : ℕ). Some (p, keep)) e
-behind_cond false q c keep o = behind_twice 1 c (suc c) o (omega arith)
+keep_past : (c : ℕ) (s : Slot) (others : List Slot) (n : ℕ) → keep_at (replicate c s ++ others) (c + n) ≡ keep_at others n
+keep_past c s others n =
+    let long : length (replicate c s) ≡ c = length-replicate c s in
+    ap (λ (z : Slot). z.keep) (subst (λ (m : ℕ). get_or (replicate c s ++ others) (m + n) no_slot ≡ get_or others n no_slot) long (get_or-append-add (replicate c s) others n no_slot))
 
-abbrev repeated : ℕ → ℕ → Keep → List Slot → ℕ → Option (ℕ × Keep)
-repeated w c keep others age = cond (ltb (age / w) c) (Some (age / w, keep)) (behind c (found others (age - c * w)))
+keep_within : (c : ℕ) (s : Slot) (others : List Slot) (n : ℕ) → n < c → keep_at (replicate c s ++ others) n ≡ s.keep
+keep_within c s others n lt =
+    let inside : n < length (replicate c s) = (let long = length-replicate c s in omega (arith, long, lt)) in
+    ap (λ (z : Slot). z.keep) (get_or_append_left (replicate c s) others no_slot n inside ∙ get_or-replicate c n s no_slot lt)
 
-repeat_step : (w c : ℕ) (keep : Keep) (others : List Slot) (age : ℕ) (b : Bool) → 0 < w → ltb age w ≡ b
-    → found (replicate c (slot_of w keep) ++ others) (age - w) ≡ repeated w c keep others (age - w)
-    → cond b (Some (0, keep)) (behind 1 (found (replicate c (slot_of w keep) ++ others) (age - w))) ≡ repeated w (suc c) keep others age
-repeat_step w c keep others age true pos e ih =
-    let lt : age < w = ltb-true age w e in
-    let none : age / w ≡ 0 = div-eq_of_lt lt in
-    rw (none, lt-ltb 0 (suc c) (omega arith)) refl
-repeat_step w c keep others age false pos e ih =
-    let le : w ≤ age = ltb-false age w e in
-    let one_more : age / w ≡ suc ((age - w) / w) = div-eq-sub-div pos le ∙ add-one ((age - w) / w) in
-    let tests : ltb (suc ((age - w) / w)) (suc c) ≡ ltb ((age - w) / w) c = grind (arith, nat_tests) in
-    let rest : (age - w) - c * w ≡ age - suc c * w = omega arith in
-    rw (one_more, tests, ih, behind_cond (ltb ((age - w) / w) c) ((age - w) / w) c keep (found others ((age - w) - c * w)), rest) refl
+total_cons : (first : Interval) (others : List Interval) → total (first ∷ others) ≡ first.count + total others
+total_cons first others = sum_by-cons (λ (interval : Interval). interval.count) first others
 
-pub found_repeated : (w c : ℕ) (keep : Keep) (others : List Slot) (age : ℕ) → 0 < w → found (replicate c (slot_of w keep) ++ others) age ≡ repeated w c keep others age
-found_repeated w zero keep others age pos = let none : age - 0 * w ≡ age = omega arith in rw (le-ltb (age / w) 0 (omega arith), none, behind_none (found others age)) refl
-found_repeated w (suc c) keep others age pos = repeat_step w c keep others age (ltb age w) pos refl (found_repeated w c keep others (age - w) pos)
+span_cons : (first : Interval) (others : List Interval) → span_of (first ∷ others) ≡ first.count * first.width + span_of others
+span_cons first others = sum_by-cons (λ (interval : Interval). interval.count * interval.width) first others
 
--- ---- a loop over the intervals
+pub slots_long : (intervals : List Interval) → length (slots intervals) ≡ total intervals
+slots_long [] = refl
+slots_long (first ∷ others) =
+    let ih = slots_long others in
+    length-append (replicate first.count (slot_of first.width first.keep)) (slots others) ∙ (λ k. length-replicate first.count (slot_of first.width first.keep) k + ih k) ∙ sym (total_cons first others)
 
-open_slots : (intervals : List Interval) (i : ℕ) (d : Interval) (rest : ℕ) → All IsInterval intervals → i < length intervals
-    → found (slots (drop i intervals)) rest ≡ repeated (get_or intervals i d).width (get_or intervals i d).count (get_or intervals i d).keep (slots (drop (i + 1) intervals)) rest
-open_slots intervals i d rest each h = rw (drop-cons intervals i d, add-one i) (found_repeated (get_or intervals i d).width (get_or intervals i d).count (get_or intervals i d).keep (slots (drop (suc i) intervals)) rest (each i d h).width)
+-- the age at which a grid ends
+pub edge_last : (intervals : List Interval) → edge (slots intervals) (total intervals) ≡ span_of intervals
+edge_last [] = refl
+edge_last (first ∷ others) =
+    let ih = edge_last others in
+    ap (edge (slots (first ∷ others))) (total_cons first others) ∙ edge_past first.count first.width first.keep (slots others) (total others)
+    ∙ ap (λ (n : ℕ). first.count * first.width + n) ih ∙ sym (span_cons first others)
 
-pub place_here : (intervals : List Interval) (i : ℕ) (d : Interval) (rest passed count : ℕ) (target : Option (ℕ × Keep)) → All IsInterval intervals → i < length intervals → count ≡ (get_or intervals i d).count
-    → rest / (get_or intervals i d).width < count → behind passed (found (slots (drop i intervals)) rest) ≡ target → Some (passed + rest / (get_or intervals i d).width, (get_or intervals i d).keep) ≡ target
-place_here intervals i d rest passed count target each h same below before =
-    let inside : ltb (rest / (get_or intervals i d).width) (get_or intervals i d).count ≡ true = lt-ltb _ _ (omega arith) in
-    let opened = open_slots intervals i d rest each h in
-    let here : behind passed (repeated (get_or intervals i d).width (get_or intervals i d).count (get_or intervals i d).keep (slots (drop (i + 1) intervals)) rest) ≡ Some (passed + rest / (get_or intervals i d).width, (get_or intervals i d).keep) = rw inside refl in
-    sym here ∙ ap (behind passed) (sym opened) ∙ before
+later_number : (first : Interval) (others : List Interval) (k n : ℕ) → total (take (suc k) (first ∷ others)) + n ≡ first.count + (total (take k others) + n)
+later_number first others k n = ap (λ (m : ℕ). m + n) (total_cons first (take k others)) ∙ add_assoc first.count (total (take k others)) n
 
-pub place_later : (intervals : List Interval) (i : ℕ) (d : Interval) (rest passed count : ℕ) (target : Option (ℕ × Keep)) → All IsInterval intervals → i < length intervals → count ≡ (get_or intervals i d).count
-    → count ≤ rest / (get_or intervals i d).width → behind passed (found (slots (drop i intervals)) rest) ≡ target
-    → behind (passed + count) (found (slots (drop (i + 1) intervals)) (rest - count * (get_or intervals i d).width)) ≡ target
-place_later intervals i d rest passed count target each h same above before =
-    let outside : ltb (rest / (get_or intervals i d).width) (get_or intervals i d).count ≡ false = le-ltb _ _ (omega arith) in
-    let opened = open_slots intervals i d rest each h in
-    let there : behind passed (repeated (get_or intervals i d).width (get_or intervals i d).count (get_or intervals i d).keep (slots (drop (i + 1) intervals)) rest)
-    ≡ behind passed (behind (get_or intervals i d).count (found (slots (drop (i + 1) intervals)) (rest - (get_or intervals i d).count * (get_or intervals i d).width))) = rw outside refl in
-    let joined : behind (passed + (get_or intervals i d).count) (found (slots (drop (i + 1) intervals)) (rest - (get_or intervals i d).count * (get_or intervals i d).width)) ≡ target =
-    sym (behind_twice passed (get_or intervals i d).count (passed + (get_or intervals i d).count) (found (slots (drop (i + 1) intervals)) (rest - (get_or intervals i d).count * (get_or intervals i d).width)) refl) ∙ sym there ∙ ap (behind passed) (sym opened) ∙ before in
-    rw same joined
+-- the left edge of slot n of interval k, and the right edge of its last slot
+pub edge_is : (intervals : List Interval) (k n : ℕ) (d : Interval) → k < length intervals → n ≤ (get_or intervals k d).count
+    → edge (slots intervals) (total (take k intervals) + n) ≡ span_of (take k intervals) + n * (get_or intervals k d).width
+edge_is [] k n d inside within = absurd (omega arith)
+edge_is (first ∷ others) zero n d inside within =
+    ap (edge (slots (first ∷ others))) (zero-add n) ∙ edge_within first.count first.width first.keep (slots others) n within ∙ sym (zero-add (n * first.width))
+edge_is (first ∷ others) (suc k) n d inside within =
+    let ih = edge_is others k n d (omega arith) within in
+    ap (edge (slots (first ∷ others))) (later_number first others k n) ∙ edge_past first.count first.width first.keep (slots others) (total (take k others) + n)
+    ∙ ap (λ (m : ℕ). first.count * first.width + m) ih ∙ sym (add_assoc (first.count * first.width) (span_of (take k others)) (n * (get_or others k d).width))
+    ∙ ap (λ (m : ℕ). m + n * (get_or others k d).width) (sym (span_cons first (take k others)))
 
-pub few_later : (intervals : List Interval) (i : ℕ) (d : Interval) (passed count : ℕ) → i < length intervals → count ≡ (get_or intervals i d).count
-    → passed + sum_by (λ interval. interval.count) (drop i intervals) ≤ 100000 → passed + count + sum_by (λ interval. interval.count) (drop (i + 1) intervals) ≤ 100000
-few_later intervals i d passed count h same before =
-    let opened : sum_by (λ interval. interval.count) (drop i intervals) ≡ (get_or intervals i d).count + sum_by (λ interval. interval.count) (drop (i + 1) intervals) =
-    rw (drop-cons intervals i d, add-one i) (sum_by-cons (λ (interval : Interval). interval.count) (get_or intervals i d) (drop (suc i) intervals)) in
-    omega arith
-
--- ---- what the code compares
-
-pub lies_some : (all : List Slot) (age place : ℕ) (x : ℕ × Keep) → Some x ≡ found all age → eqb x.0 place ≡ lies_in all age place
-lies_some all age place x e = ap (is_place place) e ∙ sym (place_is all age place)
-
-pub lies_none : (all : List Slot) (age place : ℕ) → None ≡ found all age → false ≡ lies_in all age place
-lies_none all age place e = ap (is_place place) e ∙ sym (place_is all age place)
-
-pub kept_some : (all : List Slot) (top : ℕ) (rows : List GridRow) (i : ℕ) (row : GridRow) (x : ℕ × Keep) → row.matches ≡ true → Some x ≡ found all (age_of top row) → has_room x.1 (older_in all top rows x.0 i row) ≡ slots_keep all top rows i row
-unfolding slots_keep
-kept_some all top rows i row x matching e = rw (matching, some_is all (λ place keep. has_room keep (older_in all top rows place i row)) (age_of top row), ← e) refl
-
-pub kept_none : (all : List Slot) (top : ℕ) (rows : List GridRow) (i : ℕ) (row : GridRow) → row.matches ≡ true → None ≡ found all (age_of top row) → false ≡ slots_keep all top rows i row
-unfolding slots_keep
-kept_none all top rows i row matching e = rw (matching, some_is all (λ place keep. has_room keep (older_in all top rows place i row)) (age_of top row), ← e) refl
-
-pub kept_no_match : (all : List Slot) (top : ℕ) (rows : List GridRow) (i : ℕ) (row : GridRow) → row.matches ≡ false → false ≡ slots_keep all top rows i row
-unfolding slots_keep
-kept_no_match all top rows i row other = rw other refl
+pub keep_is : (intervals : List Interval) (k n : ℕ) (d : Interval) → k < length intervals → n < (get_or intervals k d).count
+    → keep_at (slots intervals) (total (take k intervals) + n) ≡ (get_or intervals k d).keep
+keep_is [] k n d inside within = absurd (omega arith)
+keep_is (first ∷ others) zero n d inside within =
+    ap (keep_at (slots (first ∷ others))) (zero-add n) ∙ keep_within first.count (slot_of first.width first.keep) (slots others) n within
+keep_is (first ∷ others) (suc k) n d inside within =
+    ap (keep_at (slots (first ∷ others))) (later_number first others k n) ∙ keep_past first.count (slot_of first.width first.keep) (slots others) (total (take k others) + n)
+    ∙ keep_is others k n d (omega arith) within

@@ -4,6 +4,6 @@ pub mod Scan
 pub mod Span
 pub mod Grid
 pub mod Kept
-pub mod Place
+pub mod Sweep
 pub mod Build
 pub mod Canonical

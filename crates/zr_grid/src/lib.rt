@@ -7,6 +7,7 @@ mod kept;
 mod print;
 mod scan;
 mod span;
+mod sweep;
 
 pub use grid::{
     GridFault, GridSpec, Interval, Intervals, Keep, MAX_INTERVALS, MAX_KEEP, is_grid, read_grid,

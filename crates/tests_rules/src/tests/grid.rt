@@ -98,6 +98,9 @@ keep 1x1h(keep=all) | 2x1h of 1699989200:7 1699992800:7 1699994600:7 1699996400:
 keep 1x10s(keep=2) of 100:1:other:set 110:2 110:3 119:4 130:5:other => xxx--
 # of equal rows the earlier is older
 keep 1x1s of 5:9 5:9 5:10 => x--
+# rows beyond the grid, slots without rows, and rows at the left edges of age 10 and 20
+keep 2x10s | 1x100s(keep=2) of 0:1 900:2 1000:3 1001:4 1049:5 1080:6 1089:7 1090:8 1100:9 => --xx--x-x
+keep 3x5s | 2x20s of 0:1 46:2 65:3 66:4 84:5 85:6 86:7 => -xx-x--
 # a grid made by hand, and one of no intervals
 hand 7 86400 1 => a grid: 7x86400s; 1 in it
 hand none => no grid: ; 0 in it";
@@ -246,4 +249,41 @@ fn spans_and_grids(rt: HostRuntime) {
             assert!(rt; is_wanted(line, &said), "{line}: {}", told(&said));
         }
     }
+}
+
+/// Rows of the creations from 1 on, each of the transaction group of the same number.
+fn first_rows(alloc: Global, count: u64) -> Result<Vec<GridRow>, Unread> {
+    let mut rows = Vec::new(alloc);
+    for before in 0..count {
+        rows.push(GridRow {
+            creation: before + 1,
+            txg: before + 1,
+            matches: true,
+        })?;
+    }
+    Ok(rows)
+}
+
+fn count_kept(marks: &str) -> usize {
+    marks.bytes().filter(|mark| *mark == b'x').count()
+}
+
+fn halves_kept(alloc: Global) -> Result<String, Unread> {
+    let rows = first_rows(alloc, 200_000)?;
+    let mut marks = vec![in alloc; false; rows.len()]?;
+    let Ok(grid) = read_grid(alloc, b"100000x1s") else {
+        return Err(Unread);
+    };
+    let marks = marked(alloc, &grid, rows.as_slice(), marks.as_mut_slice())?;
+    let (older, younger) = marks.as_str().split_at_checked(100_000).ok_or(Unread)?;
+    let (older, younger) = (count_kept(older), count_kept(younger));
+    Ok(format!(in alloc; "{older} of the older half, {younger} of the younger")?)
+}
+
+/// The grid has 100,000 seconds, the rows have 200,000: a body that compares each row with each would not end in time.
+#[test]
+fn the_older_half_goes(rt: HostRuntime) {
+    let line =
+        "of the creations 1 to 200000 the grid 100000x1s keeps => 0 of the older half, 100000 of the younger";
+    check(&rt, line, halves_kept(rt.alloc()));
 }
