@@ -7,3 +7,5 @@ pub mod RuleMarks
 pub mod Places
 pub mod Orders
 pub mod Ranks
+pub mod Seats
+pub mod Newest

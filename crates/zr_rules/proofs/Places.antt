@@ -1,21 +1,21 @@
--- The places of rows that a grid keeps are marked.
-use Rattle.std.proofs.Common.{◌≡◌, ℕ, ◌+◌, ◌<◌, Bool, true, false, ◌||◌, ⊎_elim, List, length, get_or, set, map, Some, refl, sym, ap, subst, ◌∙◌, arith, zero-add, true≢false, option_map, All, IsPermutation}
-use Rattle.std.specs.Prelude.{slice_get}
+-- The places of rows whose flags are set in an order are marked.
+use Rattle.std.proofs.Common.{◌≡◌, ℕ, ◌+◌, ◌<◌, Bool, true, false, ◌||◌, ⊎_elim, List, length, get_or, set, map, Some, sym, ap, subst, ◌∙◌, arith, true≢false, option_map}
+use Rattle.std.specs.Prelude.{slice_get, Option}
 use Rattle.std.specs.List.{Contains}
-use Rattle.std.specs.List.Sorted.{IsSortedBy}
-use Rattle.std.specs.Ordering.{is_lt}
 use Rattle.std.proofs.lemmas.Bool.{cases_Bool, cases_eq, cases_lt}
-use Rattle.std.proofs.lemmas.List.{get_or-set_same, get_or-set_other, get_or_default, length-set}
-use Rattle.std.proofs.lemmas.List.Sorted.{Contains-permutation, All-permutation}
+use Rattle.std.proofs.lemmas.List.{get_or-set_same, get_or-set_other, get_or_default, get_or-map, length-map, length-set}
+use Rattle.std.proofs.lemmas.List.Sorted.{Contains-permutation, IsPermutation-map}
 use Rattle.std.proofs.lemmas.Option.{slice_get-map, slice_get-get_or, slice_get_within, get_or_from_slice_get, same_Some}
-use Rattle.zr_grid.specs.declared.grid.Interval.{Interval}
 use Rattle.zr_grid.specs.declared.kept.GridRow.{GridRow}
-use Rattle.zr_grid.specs.Kept.{grid_kept, IsAscending}
-use Rattle.zr_rules.specs.declared.gridding.Placed.{Placed}
+use Rattle.zr_grid.specs.Kept.{IsAscending}
+use Rattle.zr_rules.specs.declared.rule.RuleRow.{RuleRow}
+use Rattle.zr_rules.specs.declared.ordering.Placed.{Placed}
+use Rattle.zr_rules.specs.Keeps.{seen}
 use Rattle.zr_rules.specs.Marks.{AlsoMarks}
-use Rattle.zr_rules.specs.Order.{row_of, placed_from, placed_cmp, MarksPlaces}
-use Rattle.zr_rules.proofs.Ranks.{kept-same}
-use Rattle.zr_rules.proofs.Orders.{place-at, length-placed, rows-placed, placed-differ, differ-permutation, sorted-stands, sorted-keeps, placed-keeps, ascending, place_of, PlacesDiffer}
+use Rattle.zr_rules.specs.Order.{placed_from, IsOrder, no_row, in_places, MarksPlaces}
+use Rattle.zr_rules.proofs.Marked.{or-yes, or-no}
+use Rattle.zr_rules.proofs.Seats.{Seat, IsStable}
+use Rattle.zr_rules.proofs.Orders.{nothing, at-place, length-placed, place_of, PlacesDiffer, order-differs, seat_in, order-keeps, list-keeps, order-ascends, order-rows, list-rows}
 
 row-is : (rows : List Placed) (k : ℕ) (one other : Placed) → k < length rows → one ≡ get_or rows k one → slice_get rows k ≡ Some other → other ≡ one
 row-is rows k one other inside is at = same_Some other one (sym at ∙ slice_get-get_or rows k one inside ∙ ap Some (sym is))
@@ -44,14 +44,6 @@ places-no rows flags k before after unflagged so_far = record {
   as_long = so_far.as_long;
 }
 
--- each place is one of the list
-pub places-within : (rows : List GridRow) (n : ℕ) (ys : List Placed) → length rows ≡ n → IsPermutation (placed_from 0 rows) ys → All (λ one. one.place < n) ys
-places-within rows n ys long p =
-    All-permutation (λ (one : Placed). one.place < n) (placed_from 0 rows) ys p (λ k d inside.
-    let within : k < length rows = subst (λ (m : ℕ). k < m) (length-placed 0 rows) inside in
-    let place = ap (λ (o : Placed). o.place) (place-at 0 rows k d within) in
-    omega (arith, place, within, long))
-
 same-place : (ys : List Placed) (j k : ℕ) (a b : Placed) → PlacesDiffer ys → j < length ys → k < length ys → get_or ys j a ≡ a → get_or ys k b ≡ b → a.place ≡ b.place → j ≡ k
 same-place ys j k a b differ in_j in_k is_a is_b same = ⊎_elim
     (λ less. absurd (differ j k a less in_k (ap place_of is_a ∙ same ∙ sym (ap place_of (get_or_default ys k a b in_k ∙ is_b)))))
@@ -60,66 +52,97 @@ same-place ys j k a b differ in_j in_k is_a is_b same = ⊎_elim
     (cases_eq j k))
     (cases_lt j k)
 
-or-yes : (b : Bool) → (b || true) ≡ true
-or-yes true = refl
-or-yes false = refl
+row-seen : {X Y : Type 0} (f : X → Y) (rows : List X) (i : ℕ) (row : X) → slice_get rows i ≡ Some row → slice_get (map f rows) i ≡ Some (f row)
+row-seen f rows i row at = slice_get-map f rows i ∙ ap (option_map f) at
 
-or-no : (b : Bool) → (b || false) ≡ b
-or-no true = refl
-or-no false = refl
+also-seen : {X Y : Type 0} (f : X → Y) (test : ℕ → Y → Bool) (rows : List X) (before after : List Bool) → AlsoMarks test (map f rows) before after → AlsoMarks (λ i row. test i (f row)) rows before after
+also-seen f test rows before after also = record {
+  marks = λ i row at. also.marks i (f row) (row-seen f rows i row at);
+  as_long = also.as_long;
+}
 
--- the marks of the rows in order are those of the rows in the list
-pub grid-marks : (intervals : List Interval) (rows : List GridRow) (ys : List Placed) (flags before after : List Bool) → IsPermutation (placed_from 0 rows) ys → IsSortedBy (λ a b. is_lt (placed_cmp a b)) ys
-    → ((k : ℕ) (row : GridRow) → slice_get (map row_of ys) k ≡ Some row → get_or flags k false ≡ grid_kept intervals (map row_of ys) k row)
-    → MarksPlaces ys flags (length ys) before after → AlsoMarks (grid_kept intervals rows) rows before after
-grid-marks intervals rows ys flags before after p sorted flag_is marked =
-    let xs : List Placed = placed_from 0 rows in
-    let differ = differ-permutation xs ys p (placed-differ rows) in
-    let order = sorted-keeps ys differ (sorted-stands ys sorted) in
-    record {
-      marks = λ i row at.
-          let in_rows : i < length rows = slice_get_within rows i row at in
-          let t : Placed = record { row = row; place = i } in
-          let in_xs : i < length xs = subst (λ (n : ℕ). i < n) (sym (length-placed 0 rows)) in_rows in
-          let is_row : get_or rows i row ≡ row = get_or_from_slice_get rows i row row at in
-          let is_place : 0 + i ≡ i = zero-add i in
-          let is_x : get_or xs i t ≡ t = place-at 0 rows i t in_rows ∙ (λ z. record { row = is_row z; place = is_place z }) in
-          let found : Contains ys t = Contains-permutation xs ys t p (i, in_xs, is_x) in
-          let k = found.0 in
-          let at_k : slice_get ys k ≡ Some t = slice_get-get_or ys k t found.1 ∙ ap Some found.2 in
-          let row_at : slice_get (map row_of ys) k ≡ Some row = slice_get-map row_of ys k ∙ ap (option_map row_of) at_k in
-          let flag : get_or flags k false ≡ grid_kept intervals rows i row = flag_is k row row_at
-          ∙ kept-same intervals xs ys i k t p (placed-keeps rows) order in_xs (sym is_x) found.1 (sym found.2)
-          ∙ ap (λ (all : List GridRow). grid_kept intervals all i row) (rows-placed 0 rows) in
-          ⊎_elim
-          (λ set_it. marked.set k t found.1 at_k set_it ∙ sym (ap (λ (b : Bool). get_or before i false || b) (sym flag ∙ set_it) ∙ or-yes (get_or before i false)))
-          (λ unset. marked.others i (λ j other low at_j flagged same.
-          let same_k : j ≡ k = same-place ys j k other t differ low found.1 (get_or_from_slice_get ys j other other at_j) found.2 same in
-          let both : get_or flags k false ≡ true = subst (λ (n : ℕ). get_or flags n false ≡ true) same_k flagged in
-          true≢false (sym both ∙ unset))
-          ∙ sym (ap (λ (b : Bool). get_or before i false || b) (sym flag ∙ unset) ∙ or-no (get_or before i false)))
-          (cases_Bool (get_or flags k false));
-      as_long = marked.as_long;
-    }
+-- the rows as they were seen in an order, and their flags, as a function has them
+module _ (pattern : Option (List ℕ)) (rows : List RuleRow) (order : List Placed) (is : IsOrder rows order) (rows_seen view : List GridRow) (seen_is : rows_seen ≡ in_places (map (seen pattern) rows) order) (view_is : view ≡ rows_seen) where
+  pub view-ascends : IsAscending view
+  view-ascends = subst IsAscending (sym (view_is ∙ seen_is)) (order-ascends rows order is pattern)
 
--- what the function that marks a grid's rows has: the rows with places, sorted, and as a grid takes them
-module _ (rows : List GridRow) (xs ys view : List Placed) (grid_rows grid_view : List GridRow) (placed : xs ≡ placed_from 0 rows) (p : IsPermutation xs ys) (sorted : IsSortedBy (λ a b. is_lt (placed_cmp a b)) ys)
-    (view_is : view ≡ ys) (grid_is : grid_rows ≡ map row_of view) (grid_view_is : grid_view ≡ grid_rows) where
-  grid_rows-are : grid_view ≡ map row_of ys
-  grid_rows-are = grid_view_is ∙ grid_is ∙ ap (map row_of) view_is
+  pub flags-long : (flags flags_view : List Bool) → flags_view ≡ flags → length flags ≡ length view → length flags_view ≡ length order
+  flags-long flags flags_view flags_is long = ap length flags_is ∙ long ∙ ap length (view_is ∙ seen_is) ∙ length-map order (λ one. get_or (map (seen pattern) rows) one.place no_row)
 
-  pub ascends : IsAscending grid_view
-  ascends = subst IsAscending (sym grid_rows-are) (ascending ys (sorted-stands ys sorted))
+-- where the flags of an order say what a test says of the rows in it, the marks say what it says of the rows in the list
+module _ (pattern : Option (List ℕ)) (rows : List RuleRow) (order : List Placed) (is : IsOrder rows order) (test : List GridRow → ℕ → GridRow → Bool) (stable : IsStable test) where
+  abbrev all : List GridRow
+  all = map (seen pattern) rows
 
-  pub shuffled : IsPermutation (placed_from 0 rows) ys
-  shuffled = subst (λ (all : List Placed). IsPermutation all ys) placed p
+  abbrev seat : Placed → Seat
+  seat = seat_in pattern rows
 
-  pub marks-all : (intervals : List Interval) (flags flags_view before after : List Bool) (last : List Placed) → flags_view ≡ flags → last ≡ ys
-      → ((k : ℕ) (row : GridRow) → slice_get grid_view k ≡ Some row → get_or flags k false ≡ grid_kept intervals grid_view k row)
-      → MarksPlaces last flags_view (length last) before after → AlsoMarks (grid_kept intervals rows) rows before after
-  marks-all intervals flags flags_view before after last flags_is last_is flag_is marked =
-      grid-marks intervals rows ys flags before after shuffled sorted
-      (λ k row at.
-      let seen_at : slice_get grid_view k ≡ Some row = subst (λ (all : List GridRow). slice_get all k ≡ Some row) (sym grid_rows-are) at in
-      flag_is k row seen_at ∙ ap (λ (all : List GridRow). grid_kept intervals all k row) grid_rows-are)
-      (subst (λ (all : List Placed). MarksPlaces all flags (length all) before after) last_is (subst (λ (all : List Bool). MarksPlaces last all (length last) before after) flags_is marked))
+  abbrev Flagged : List Bool → Type 0
+  Flagged flags = (k : ℕ) (row : GridRow) → slice_get (in_places all order) k ≡ Some row → get_or flags k false ≡ test (in_places all order) k row
+
+  -- where the row at a place of the list stands in the order
+  abbrev Stands : ℕ → Type 0
+  Stands i = (k : ℕ) × (one : Placed) × (k < length order) × (slice_get order k ≡ Some one) × (get_or order k one ≡ one) × (one.place ≡ i)
+
+  stands-at : (i : ℕ) → i < length rows → Stands i
+  stands-at i inside =
+      let one : Placed = get_or (placed_from 0 rows) i nothing in
+      let long = length-placed 0 rows in
+      let within : i < length (placed_from 0 rows) = omega (arith, long, inside) in
+      let found : Contains order one = Contains-permutation (placed_from 0 rows) order one is.same_rows (i, within, get_or_default (placed_from 0 rows) i one nothing within) in
+      (found.0, one, found.1, slice_get-get_or order found.0 one found.1 ∙ ap Some found.2, found.2, at-place rows i nothing inside)
+
+  flag-is : (flags : List Bool) (i : ℕ) (row : GridRow) → Flagged flags → slice_get all i ≡ Some row → (s : Stands i) → get_or flags s.0 false ≡ test all i row
+  flag-is flags i row flagged at s =
+      let k = s.0 in
+      let one = s.1 in
+      let in_all : i < length all = slice_get_within all i row at in
+      let seen_long = length-map rows (seen pattern) in
+      let long = length-placed 0 rows in
+      let inside : i < length rows = omega (arith, seen_long, in_all) in
+      let t : Seat = record { row = row; place = i } in
+      let there : get_or all one.place no_row ≡ row = ap (λ (n : ℕ). get_or all n no_row) s.5 ∙ get_or_from_slice_get all i row no_row at in
+      let is_seat : seat one ≡ t = λ z. record { row = there z; place = s.5 z } in
+      let is_y : get_or (map seat order) k t ≡ t = get_or-map seat order k one t s.2 ∙ ap seat s.4 ∙ is_seat in
+      let here : get_or all (get_or (placed_from 0 rows) i nothing).place no_row ≡ row = ap (λ (n : ℕ). get_or all n no_row) (at-place rows i nothing inside) ∙ get_or_from_slice_get all i row no_row at in
+      let in_list : i < length (placed_from 0 rows) = omega (arith, long, inside) in
+      let is_x : get_or (map seat (placed_from 0 rows)) i t ≡ t = get_or-map seat (placed_from 0 rows) i nothing t in_list ∙ (λ z. record { row = here z; place = at-place rows i nothing inside z }) in
+      let row_at : slice_get (in_places all order) k ≡ Some row =
+      slice_get-map (λ (o : Placed). get_or all o.place no_row) order k ∙ ap (option_map (λ (o : Placed). get_or all o.place no_row)) s.3 ∙ ap Some there in
+      let order_long = length-map order seat in
+      let list_long = length-map (placed_from 0 rows) seat in
+      flagged k row row_at
+      ∙ ap (λ (list : List GridRow). test list k row) (sym (order-rows rows order is pattern))
+      ∙ stable (map seat (placed_from 0 rows)) (map seat order) i k t (IsPermutation-map seat (placed_from 0 rows) order is.same_rows) (list-keeps rows order is pattern) (order-keeps rows order is pattern)
+      (omega (arith, list_long, in_list)) (sym is_x) (omega (arith, order_long, s.2)) (sym is_y)
+      ∙ ap (λ (list : List GridRow). test list i row) (list-rows rows order is pattern)
+
+  pub marks-of : (flags before after : List Bool) → Flagged flags → MarksPlaces order flags (length order) before after → AlsoMarks (test all) all before after
+  marks-of flags before after flagged marked = record {
+    marks = λ i row at.
+        let in_all : i < length all = slice_get_within all i row at in
+        let seen_long = length-map rows (seen pattern) in
+        let s = stands-at i (omega (arith, seen_long, in_all)) in
+        let k = s.0 in
+        let flag : get_or flags k false ≡ test all i row = flag-is flags i row flagged at s in
+        ⊎_elim
+        (λ set_it. subst (λ (n : ℕ). get_or after n false ≡ true) s.5 (marked.set k s.1 s.2 s.3 set_it) ∙ sym (ap (λ (b : Bool). get_or before i false || b) (sym flag ∙ set_it) ∙ or-yes (get_or before i false)))
+        (λ unset. marked.others i (λ j other low at_j flagged_j same.
+        let same_k : j ≡ k = same-place order j k other s.1 (order-differs rows order is) low s.2 (get_or_from_slice_get order j other other at_j) s.4 (same ∙ sym s.5) in
+        let both : get_or flags k false ≡ true = subst (λ (n : ℕ). get_or flags n false ≡ true) same_k flagged_j in
+        true≢false (sym both ∙ unset))
+        ∙ sym (ap (λ (b : Bool). get_or before i false || b) (sym flag ∙ unset) ∙ or-no (get_or before i false)))
+        (cases_Bool (get_or flags k false));
+    as_long = marked.as_long;
+  }
+
+  -- the same, of the lists as a function has them: the rows as they were seen in the order, and their flags
+  module _ (rows_seen view : List GridRow) (flags flags_view : List Bool) (seen_is : rows_seen ≡ in_places all order) (view_is : view ≡ rows_seen) (flags_is : flags_view ≡ flags) where
+    pub marked : (before after : List Bool) → ((k : ℕ) (row : GridRow) → slice_get view k ≡ Some row → get_or flags k false ≡ test view k row) → MarksPlaces order flags_view (length order) before after
+        → AlsoMarks (λ i row. test all i (seen pattern row)) rows before after
+    marked before after flag_is places =
+        let is_view : in_places all order ≡ view = sym (view_is ∙ seen_is) in
+        also-seen (seen pattern) (test all) rows before after
+        (marks-of flags before after
+        (λ k row at. flag_is k row (subst (λ (list : List GridRow). slice_get list k ≡ Some row) is_view at) ∙ ap (λ (list : List GridRow). test list k row) (sym is_view))
+        (subst (λ (list : List Bool). MarksPlaces order list (length order) before after) flags_is places))

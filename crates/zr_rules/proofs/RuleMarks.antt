@@ -1,47 +1,24 @@
--- The marks of rows under a pattern are those of the rows.
-use Rattle.std.proofs.Common.{true, false, ◌≡◌, ℕ, ◌+◌, ◌<◌, ◌≤◌, Bool, not, ◌||◌, List, [], ◌∷◌, length, get_or, take, map, Option, Some, refl, sym, ap, subst, ◌∙◌, option_map, arith}
-use Rattle.std.specs.Prelude.{slice_get, if◌then◌else◌}
+-- The marks of the rows that the rules of a list keep.
+use Rattle.std.proofs.Common.{true, false, ◌≡◌, ℕ, ◌+◌, ◌<◌, ◌≤◌, Bool, ◌||◌, List, [], ◌∷◌, length, get_or, take, map, Option, Some, refl, sym, ap, subst, ◌∙◌, arith}
+use Rattle.std.specs.Prelude.{slice_get}
 use Rattle.std.specs.List.{list_any}
-use Rattle.std.proofs.lemmas.Option.{slice_get-map, slice_get_within, slice_get-get_or}
+use Rattle.std.proofs.lemmas.Option.{slice_get_within, slice_get-get_or}
 use Rattle.std.proofs.lemmas.List.{get_or-map, take_all, length-map}
 use Rattle.std.proofs.lemmas.List.Folds.{list_any_more}
 use Rattle.std.specs.Prelude.{All}
 use Rattle.zr_rules.specs.declared.rule.RuleSpec.{RuleSpec}
 use Rattle.zr_rules.specs.Specs.{HasGrid}
-use Rattle.zr_grid.specs.declared.grid.GridSpec.{GridSpec}
-use Rattle.zr_grid.specs.declared.kept.GridRow.{GridRow}
-use Rattle.zr_grid.specs.Kept.{grid_kept}
 use Rattle.zr_rules.specs.declared.rule.RuleRow.{RuleRow}
 use Rattle.zr_rules.specs.declared.compiling.Rule.{Rule}
-use Rattle.zr_rules.specs.declared.compiling.Rule.TheVariants as rule
 use Rattle.zr_rules.specs.Rules.{spec_of}
-use Rattle.zr_rules.specs.Keeps.{seen, is_of_newest, keeps, retained}
+use Rattle.zr_rules.specs.Keeps.{keeps, retained}
 use Rattle.zr_rules.specs.Marks.{AlsoMarks}
-
-row-seen : {X Y : Type 0} (f : X → Y) (rows : List X) (i : ℕ) (row : X) → slice_get rows i ≡ Some row → slice_get (map f rows) i ≡ Some (f row)
-row-seen f rows i row at = slice_get-map f rows i ∙ ap (option_map f) at
-
-also-seen : {X Y : Type 0} (f : X → Y) (test : ℕ → Y → Bool) (rows : List X) (before after : List Bool) → AlsoMarks test (map f rows) before after → AlsoMarks (λ i row. test i (f row)) rows before after
-also-seen f test rows before after also = record {
-  marks = λ i row at. also.marks i (f row) (row-seen f rows i row at);
-  as_long = also.as_long;
-}
+use Rattle.zr_rules.proofs.Marked.{or-no}
 
 module _ (rows : List RuleRow) (cursor : Option ℕ) (before after : List Bool) where
   -- the rows that a compiled rule keeps are marked too
   abbrev pub RuleMarks : Rule → Type 0
   RuleMarks r = AlsoMarks (λ i row. keeps rows cursor i row (spec_of r)) rows before after
-
-  pub newest-marked : (r : Rule) (count : ℕ) (pattern : Option (List ℕ)) (all rows_seen : List GridRow) → r ≡ rule.LastN count pattern → rows_seen ≡ map (seen pattern) rows → all ≡ rows_seen → AlsoMarks (is_of_newest count all) all before after → RuleMarks r
-  newest-marked r count pattern all rows_seen is are same also =
-      let P : List GridRow → Type 0 = λ xs. AlsoMarks (is_of_newest count xs) xs before after in
-      subst RuleMarks (sym is) (also-seen (seen pattern) (is_of_newest count (map (seen pattern) rows)) rows before after (subst P (same ∙ are) also))
-
-  pub matching-marked : (r : Rule) (pattern : List ℕ) (negate : Bool) (all rows_seen : List GridRow) → r ≡ rule.Regex pattern negate → rows_seen ≡ map (seen (Some pattern)) rows → all ≡ rows_seen → AlsoMarks (λ i row. if negate then not row.matches else row.matches) all before after → RuleMarks r
-  matching-marked r pattern negate all rows_seen is are same also =
-      let test : ℕ → GridRow → Bool = λ i row. if negate then not row.matches else row.matches in
-      let P : List GridRow → Type 0 = λ xs. AlsoMarks test xs before after in
-      subst RuleMarks (sym is) (also-seen (seen (Some pattern)) test rows before after (subst P (same ∙ are) also))
 
 pub any-of-map : {X Y : Type 0} (f : X → Y) (test : Y → Bool) (xs : List X) → list_any test (map f xs) ≡ list_any (λ x. test (f x)) xs
 any-of-map f test [] = refl
@@ -50,10 +27,6 @@ any-of-map f test (x ∷ xs) = ap (λ b. test (f x) || b) (any-of-map f test xs)
 pub grid-at : (rules : List Rule) (i : ℕ) (r : Rule) → i < length rules → r ≡ get_or rules i r → All HasGrid (map spec_of rules) → HasGrid (spec_of r)
 grid-at rules i r inside is each =
     subst HasGrid (get_or-map spec_of rules i r (spec_of r) inside ∙ ap spec_of (sym is)) (each i (spec_of r) (rw (length-map rules spec_of) inside))
-
-or-no : (b : Bool) → b ≡ (b || false)
-or-no true = refl
-or-no false = refl
 
 or-more : (a b c : Bool) → ((a || b) || c) ≡ (a || (b || c))
 or-more true b c = refl
@@ -65,7 +38,7 @@ module _ (rows : List RuleRow) (cursor : Option ℕ) where
   FirstMark rules place before after = AlsoMarks (λ i row. list_any (λ r. keeps rows cursor i row (spec_of r)) (take place rules)) rows before after
 
   pub none-mark : (rules : List Rule) (marks : List Bool) → FirstMark rules 0 marks marks
-  none-mark rules marks = record { marks = λ i row at. or-no (get_or marks i false); as_long = refl }
+  none-mark rules marks = record { marks = λ i row at. sym (or-no (get_or marks i false)); as_long = refl }
 
   pub one-more : (rules : List Rule) (place : ℕ) (r : Rule) (before between after : List Bool) → place < length rules → r ≡ get_or rules place r → FirstMark rules place before between → RuleMarks rows cursor between after r → FirstMark rules (place + 1) before after
   one-more rules place r before between after inside is first also = record {

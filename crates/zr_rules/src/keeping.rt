@@ -6,12 +6,13 @@ ghost use Rattle.zr_rules.specs.Specs.{HasGrid};
 ghost use Rattle.zr_rules.specs.Rules.{spec_of};
 ghost use Rattle.zr_rules.specs.Keeps.{keeps, retained};
 ghost use Rattle.zr_rules.specs.Marks.{AlsoMarks};
+ghost use Rattle.zr_rules.specs.Order.{IsOrder};
 
 use crate::compiling::{Rule, Rules};
-use crate::gridding::mark_grid;
-use crate::marking::{mark_matching, mark_newest, mark_unreplicated};
+use crate::counting::{mark_grid, mark_newest};
+use crate::marking::{mark_matching, mark_unreplicated};
+use crate::ordering::{Placed, in_order};
 use crate::rule::RuleRow;
-use crate::seeing::{seen_by, seen_rows};
 use std::alloc::{AllocError, Global};
 use zr_names::NoMemory;
 
@@ -20,33 +21,24 @@ fn mark(
     alloc: Global,
     rule: &Rule,
     rows: &[RuleRow],
+    order: &[Placed],
     cursor: Option<u64>,
     marks: &mut [bool],
 ) -> Result<(), AllocError>
     requires marks { length marks.old ≡ length rows.now }
+    requires order { IsOrder rows.now order.now }
     requires grid { HasGrid (spec_of rule.now) }
     ensures marked { OnOk result (AlsoMarks (λ i row. keeps rows.now cursor i row (spec_of rule.now)) rows.now marks.old marks.new) }
     ensures as_long { length marks.new ≡ length marks.old }
 {
     match rule {
-        Rule::Grid { spec, pattern } => {
-            let grid_rows = seen_rows(alloc, pattern, rows)?;
-            mark_grid(alloc, spec, grid_rows.as_slice(), marks)
-        }
-        Rule::LastN { count, pattern } => {
-            let rows = seen_rows(alloc, pattern, rows)?;
-            mark_newest(*count, rows.as_slice(), marks);
-            Ok(())
-        }
+        Rule::Grid { spec, pattern } => mark_grid(alloc, spec, pattern, rows, order, marks),
+        Rule::LastN { count, pattern } => mark_newest(alloc, *count, pattern, rows, order, marks),
         Rule::NotReplicated { at_cursor } => {
             mark_unreplicated(*at_cursor, cursor, rows, marks);
             Ok(())
         }
-        Rule::Regex { pattern, negate } => {
-            let rows = seen_by(alloc, pattern, rows)?;
-            mark_matching(*negate, rows.as_slice(), marks);
-            Ok(())
-        }
+        Rule::Regex { pattern, negate } => mark_matching(alloc, pattern, *negate, rows, marks),
     }
 }
 
@@ -55,16 +47,18 @@ fn mark_all(
     alloc: Global,
     rules: &[Rule],
     rows: &[RuleRow],
+    order: &[Placed],
     cursor: Option<u64>,
     marks: &mut [bool],
 ) -> Result<(), AllocError>
     requires marks { length marks.old ≡ length rows.now }
+    requires order { IsOrder rows.now order.now }
     requires grids { All HasGrid (map spec_of rules.now) }
     ensures marked { OnOk result (AlsoMarks (retained (map spec_of rules.now) rows.now cursor) rows.now marks.old marks.new) }
     ensures as_long { length marks.new ≡ length marks.old }
 {
     for rule in rules {
-        mark(alloc, rule, rows, cursor, marks)?;
+        mark(alloc, rule, rows, order, cursor, marks)?;
     }
     Ok(())
 }
@@ -95,6 +89,14 @@ pub fn kept(
     ensures rules { rules.new ≡ rules.old }
 {
     clear(marks);
-    mark_all(alloc, rules.rules.as_slice(), rows, cursor, marks)?;
+    let order = in_order(alloc, rows)?;
+    mark_all(
+        alloc,
+        rules.rules.as_slice(),
+        rows,
+        order.as_slice(),
+        cursor,
+        marks,
+    )?;
     Ok(())
 }

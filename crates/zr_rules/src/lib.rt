@@ -2,9 +2,10 @@
 #![tactic(auto)]
 
 mod compiling;
-mod gridding;
+mod counting;
 mod keeping;
 mod marking;
+mod ordering;
 mod pattern;
 mod patterns;
 mod rule;

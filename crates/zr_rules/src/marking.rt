@@ -1,58 +1,14 @@
-//! The snapshots that each rule keeps.
+//! The rules that look at each snapshot for itself: its transaction group, or its name.
 
-ghost use Rattle.std.specs.Prelude.{◌≡◌, ◌<◌, not, if◌then◌else◌, length};
-ghost use Rattle.zr_rules.specs.Keeps.{is_newer, is_as_old, newer_than, is_of_newest, is_unreplicated};
+ghost use Rattle.std.specs.Prelude.{◌≡◌, ◌<◌, not, if◌then◌else◌, length, OnOk};
+ghost use Rattle.zr_rules.specs.Keeps.{is_unreplicated};
 ghost use Rattle.zr_rules.specs.Marks.{AlsoMarks};
+ghost use Rattle.zr_rules.specs.Matching.{finds};
 
+use crate::pattern::Pattern;
 use crate::rule::RuleRow;
-use zr_grid::GridRow;
-
-fn is_newer(other: &GridRow, row: &GridRow) -> bool
-    ensures { result ≡ is_newer other.now row.now }
-{
-    row.creation < other.creation || (other.creation == row.creation && row.txg < other.txg)
-}
-
-fn is_as_old(other: &GridRow, row: &GridRow) -> bool
-    ensures { result ≡ is_as_old other.now row.now }
-{
-    other.creation == row.creation && other.txg == row.txg
-}
-
-/// How many matching rows are newer than row `i`.
-fn newer_than(rows: &[GridRow], i: usize, row: &GridRow) -> usize
-    requires { i < length rows.now }
-    ensures { result ≡ newer_than rows.now i row.now }
-{
-    let newer = rows
-        .iter()
-        .filter(|other| other.matches && is_newer(other, row))
-        .count();
-    let as_old = rows[i + 1..]
-        .iter()
-        .filter(|other| other.matches && is_as_old(other, row))
-        .count();
-    newer + as_old
-}
-
-fn is_of_newest(count: u32, rows: &[GridRow], i: usize, row: &GridRow) -> bool
-    requires { i < length rows.now }
-    ensures { result ≡ is_of_newest count rows.now i row.now }
-{
-    row.matches && newer_than(rows, i, row) < count as usize
-}
-
-/// Marks the newest matching rows, of so many.
-pub(crate) fn mark_newest(count: u32, rows: &[GridRow], marks: &mut [bool])
-    requires { length marks.old ≡ length rows.now }
-    ensures { AlsoMarks (is_of_newest count rows.now) rows.now marks.old marks.new }
-{
-    for (i, row) in rows.iter().enumerate() {
-        if is_of_newest(count, rows, i, row) {
-            marks[i] = true;
-        }
-    }
-}
+use crate::seeing::{is_found, text_of};
+use std::alloc::{AllocError, Global};
 
 fn is_unreplicated(at_cursor: bool, cursor: Option<u64>, txg: u64) -> bool
     ensures { result ≡ is_unreplicated at_cursor cursor txg }
@@ -80,14 +36,23 @@ pub(crate) fn mark_unreplicated(
     }
 }
 
-/// Marks the matching rows, or with `negate` the others.
-pub(crate) fn mark_matching(negate: bool, rows: &[GridRow], marks: &mut [bool])
+/// Marks the rows whose names match, or with `negate` the others.
+pub(crate) fn mark_matching(
+    alloc: Global,
+    pattern: &Pattern,
+    negate: bool,
+    rows: &[RuleRow],
+    marks: &mut [bool],
+) -> Result<(), AllocError>
     requires { length marks.old ≡ length rows.now }
-    ensures { AlsoMarks (λ i row. if negate then not row.matches else row.matches) rows.now marks.old marks.new }
+    ensures marked { OnOk result (AlsoMarks (λ i row. if negate then not (finds pattern.now row.name) else finds pattern.now row.name) rows.now marks.old marks.new) }
+    ensures as_long { length marks.new ≡ length marks.old }
 {
+    let mut matcher = pattern.matcher(alloc)?;
     for (i, row) in rows.iter().enumerate() {
-        if row.matches != negate {
+        if is_found(&mut matcher, text_of(&row.name)) != negate {
             marks[i] = true;
         }
     }
+    Ok(())
 }

@@ -1,10 +1,12 @@
 //! Snapshots under the pattern of a rule.
 
-ghost use Rattle.std.specs.Prelude.{◌≡◌, map, IfOk, Some, None};
+ghost use Rattle.std.specs.Prelude.{◌≡◌, ◌<◌, length, map, All, IfOk, Some, None};
 ghost use Rattle.zr_rules.specs.Keeps.{seen};
 ghost use Rattle.zr_rules.specs.Matching.{finds, FindsAs};
+ghost use Rattle.zr_rules.specs.Order.{in_places};
 ghost use Rattle.regex.specs.Strings.{matcher_pattern};
 
+use crate::ordering::Placed;
 use crate::pattern::Pattern;
 use crate::rule::RuleRow;
 use regex::Matcher;
@@ -13,7 +15,7 @@ use zr_grid::GridRow;
 use zr_names::SnapName;
 
 #[tactic(auto, using(crate::proofs::Texts::utf8_name))]
-fn text_of(name: &SnapName) -> &str
+pub(crate) fn text_of(name: &SnapName) -> &str
     ensures { result.now ≡ name.now }
 {
     match str::from_utf8(name.as_bytes()) {
@@ -22,11 +24,24 @@ fn text_of(name: &SnapName) -> &str
     }
 }
 
-fn all_seen(alloc: Global, rows: &[RuleRow]) -> Result<Vec<GridRow>, AllocError>
-    ensures { IfOk result (λ rows_seen. rows_seen.items ≡ map (seen None) rows.now) }
+pub(crate) fn is_found(matcher: &mut Matcher<'_>, name: &str) -> bool
+    ensures found { (text : _) → FindsAs (matcher_pattern matcher.old) text → result ≡ finds text name.now }
+    ensures same { matcher_pattern matcher.new ≡ matcher_pattern matcher.old }
 {
-    let mut rows_seen = Vec::with_capacity(alloc, rows.len())?;
-    for row in rows {
+    matcher.is_match(name)
+}
+
+fn all_in_order(
+    alloc: Global,
+    rows: &[RuleRow],
+    order: &[Placed],
+) -> Result<Vec<GridRow>, AllocError>
+    requires { All (λ one. one.place < length rows.now) order.now }
+    ensures { IfOk result (λ rows_seen. rows_seen.items ≡ in_places (map (seen None) rows.now) order.now) }
+{
+    let mut rows_seen = Vec::with_capacity(alloc, order.len())?;
+    for one in order {
+        let row = &rows[one.place];
         rows_seen.push(GridRow {
             creation: row.creation,
             txg: row.txg,
@@ -36,24 +51,19 @@ fn all_seen(alloc: Global, rows: &[RuleRow]) -> Result<Vec<GridRow>, AllocError>
     Ok(rows_seen)
 }
 
-fn is_found(matcher: &mut Matcher<'_>, name: &str) -> bool
-    ensures found { (text : _) → FindsAs (matcher_pattern matcher.old) text → result ≡ finds text name.now }
-    ensures same { matcher_pattern matcher.new ≡ matcher_pattern matcher.old }
-{
-    matcher.is_match(name)
-}
-
-/// The snapshots, with whether each name matches.
-pub(crate) fn seen_by(
+fn found_in_order(
     alloc: Global,
     pattern: &Pattern,
     rows: &[RuleRow],
+    order: &[Placed],
 ) -> Result<Vec<GridRow>, AllocError>
-    ensures { IfOk result (λ rows_seen. rows_seen.items ≡ map (seen (Some pattern.now)) rows.now) }
+    requires { All (λ one. one.place < length rows.now) order.now }
+    ensures { IfOk result (λ rows_seen. rows_seen.items ≡ in_places (map (seen (Some pattern.now)) rows.now) order.now) }
 {
     let mut matcher = pattern.matcher(alloc)?;
-    let mut rows_seen = Vec::with_capacity(alloc, rows.len())?;
-    for row in rows {
+    let mut rows_seen = Vec::with_capacity(alloc, order.len())?;
+    for one in order {
+        let row = &rows[one.place];
         rows_seen.push(GridRow {
             creation: row.creation,
             txg: row.txg,
@@ -63,16 +73,18 @@ pub(crate) fn seen_by(
     Ok(rows_seen)
 }
 
-/// The snapshots, with whether each name matches. Without a pattern every name does.
-pub(crate) fn seen_rows(
+/// The snapshots in an order, with whether each name matches. Without a pattern every name does.
+pub(crate) fn seen_in_order(
     alloc: Global,
     pattern: &Option<Pattern>,
     rows: &[RuleRow],
+    order: &[Placed],
 ) -> Result<Vec<GridRow>, AllocError>
-    ensures { IfOk result (λ rows_seen. rows_seen.items ≡ map (seen pattern.now) rows.now) }
+    requires { All (λ one. one.place < length rows.now) order.now }
+    ensures { IfOk result (λ rows_seen. rows_seen.items ≡ in_places (map (seen pattern.now) rows.now) order.now) }
 {
     match pattern {
-        Some(pattern) => seen_by(alloc, pattern, rows),
-        None => all_seen(alloc, rows),
+        Some(pattern) => found_in_order(alloc, pattern, rows, order),
+        None => all_in_order(alloc, rows, order),
     }
 }

@@ -61,6 +61,8 @@ grid 1x1h ; a:100:11, b:100:11, c:100:12 => keeps: a;
 grid 1x1h ; a:100:12, b:99:13, c:99:13 => keeps: b;
 # a grid sees matching names alone: the newest row does not match, gives no age, and is neither kept nor counted
 grid 1x10s(keep=2) of /^g/ ; m:100:1, g1:110:2, g2:110:3, g3:119:4, n:130:5 => keeps: g1; g2;
+# of one list a grid keeps the oldest, and `last_n` the newest: ages 0, 50, 50 and 110
+grid 1x100s & last 1 of /^a/ ; b:150:3, a1:100:2, a2:100:1, c:40:9 => keeps: a1; a2;
 # a row stays that one of several rules keeps: the last, the first by its name, those above the cursor, and the
 # oldest `[b-e]` of ages below 250
 last 1 & regex /^keep_/ & newer than the cursor & grid 1x250s of /^[b-e]$/ ; keep_a:100:11, b:200:12, c:300:13, d:400:14, e:500:15 ; 13 => keeps: keep_a; c; d; e;

@@ -3,7 +3,7 @@ use Rattle.std.specs.Ordering.{is_lt}
 use Rattle.std.proofs.lemmas.List.Sorted.{answers_always}
 use Rattle.zr_rules.specs.Order.{placed_cmp}
 use Rattle.zr_rules.proofs.Orders.{placed_ranks}
-use Rattle.zr_rules.proofs.gridding.sort.Goals as goal
+use Rattle.zr_rules.proofs.ordering.sort.Goals as goal
 
 pub returns-clause-in_order : goal.returns-clause-in_order
 returns-clause-in_order c =
