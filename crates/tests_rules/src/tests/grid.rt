@@ -285,5 +285,6 @@ fn halves_kept(alloc: Global) -> Result<String, Unread> {
 fn the_older_half_goes(rt: HostRuntime) {
     let line =
         "of the creations 1 to 200000 the grid 100000x1s keeps => 0 of the older half, 100000 of the younger";
-    check(&rt, line, halves_kept(rt.alloc()));
+    let said = halves_kept(rt.alloc());
+    assert!(rt; is_wanted(line, &said), "{line}: {}", told(&said));
 }
