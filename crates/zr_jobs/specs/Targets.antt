@@ -1,5 +1,5 @@
 -- Where what is replicated goes.
-use Rattle.std.specs.Prelude.{◌≡◌, ◌≢◌, ◌⊎◌, ℕ, ◌<◌, ◌≤◌, List, ◌∷◌, ◌++◌, length, Result, Ok, Err, ⊤}
+use Rattle.std.specs.Prelude.{◌≡◌, ◌≢◌, ◌⊎◌, ℕ, ◌<◌, ◌≤◌, List, ◌∷◌, ◌++◌, length, Option, Some, None, Result, Ok, Err, ⊤}
 use Rattle.zr_jobs.specs.Identities.{IsIdentity}
 use Rattle.zr_jobs.specs.declared.target.Destination.{Destination}
 use Rattle.zr_jobs.specs.declared.target.Destination.TheVariants.{Push, Pull}
@@ -48,3 +48,9 @@ AreApart (Pull r) (Pull s) = RootsApart r s
 abbrev pub HasIdentity : Destination → Type 0
 HasIdentity (Push root identity) = IsIdentity identity
 HasIdentity (Pull root) = ⊤
+
+-- a fault that tells the length of a target tells it exactly, and there is one that is too long
+abbrev pub TellsLength : Option Destination → List ℕ → TargetFault → Type 0
+TellsLength (Some place) source (NameTooLong n) = (n ≡ length (target_text place source)) × (LONGEST_PATH < n)
+TellsLength None source (NameTooLong n) = ⊥
+TellsLength place source NoMemory = ⊤

@@ -2,6 +2,7 @@ ghost use Rattle.std.specs.Prelude.{◌≡◌, IfErr, IfOk, true};
 ghost use Rattle.std.specs.Option.{option_copied};
 ghost use Rattle.zr_jobs.specs.declared.target.TargetFault.TheVariants as target_fault;
 ghost use Rattle.zr_jobs.specs.Jobs.{fits, fits_target, pair_in};
+ghost use Rattle.zr_jobs.specs.Targets.{TellsLength};
 
 use crate::pair::Pair;
 use crate::target::{Destination, LONGEST_PATH, TargetFault, target_length, target_of};
@@ -35,6 +36,7 @@ pub struct JobSet {
 }
 
 impl JobSet {
+    ghost use Rattle.zr_jobs.specs.Targets.{TellsLength};
     ghost use Rattle.std.specs.Prelude.{◌≡◌, IfErr, IfOk, Some, true};
     ghost use Rattle.std.specs.Option.{option_copied};
     ghost use Rattle.zr_jobs.specs.declared.target.TargetFault.TheVariants as target_fault;
@@ -95,6 +97,7 @@ impl JobSet {
         ensures pair { IfOk result (λ pair. pair ≡ pair_of (job_at self.now number) source.now) }
         ensures fault { IfErr result (λ fault.
             fits_in (job_at self.now number) source.now ≡ true → fault ≡ target_fault.NoMemory) }
+        ensures length { IfErr result (TellsLength (destination_of (job_at self.now number)) source.now) }
     {
         match self.job(number) {
             Some(job) => pair_in(alloc, job, source),
@@ -137,6 +140,7 @@ fn pair_in(alloc: Global, job: &Job, source: &Path) -> Result<Option<Pair>, Targ
     ensures pair { IfOk result (λ pair. pair ≡ pair_in job.now source.now job.now.destination) }
     ensures fault { IfErr result (λ fault.
         fits_target job.now.destination source.now ≡ true → fault ≡ target_fault.NoMemory) }
+    ensures length { IfErr result (TellsLength job.now.destination source.now) }
 {
     let Some(place) = &job.destination else {
         return Ok(None);

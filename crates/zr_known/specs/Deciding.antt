@@ -1,5 +1,5 @@
-use Rattle.std.specs.Prelude.{◌≡◌, ◌≢◌, ◌||◌, ◌⊎◌, ℕ, Bool, true, false, List, Option, Some}
-use Rattle.std.specs.Option.{option_map_or}
+use Rattle.std.specs.Prelude.{◌≡◌, ◌≢◌, ◌&&◌, ◌||◌, ◌⊎◌, ℕ, Bool, true, false, List, [], Option, Some, find, option_map}
+use Rattle.std.specs.Option.{option_map_or, option_or}
 use Rattle.zr_names.specs.Marks.{cursor_text}
 use Rattle.zr_names.specs.declared.unit.Guid.{Guid}
 use Rattle.zr_command.specs.declared.version.VersionName.{VersionName}
@@ -33,3 +33,12 @@ pub record MakesCursor (pair : Pair) (known : Known) (guid : Guid) (version : Ve
 abbrev pub makes_cursor : Pair → Known → Guid → VersionName → Bool
 makes_cursor pair known guid version =
     option_map_or (λ row. is_snap_of guid row || is_tentative_of pair.job guid row) (source_row version known) false
+
+-- what the cursor of a guid is made from: the first listed snapshot that has the guid, else the job's tentative cursor of it
+abbrev pub cursor_source : Pair → Known → Guid → Option VersionName
+cursor_source pair known guid =
+    option_map (λ (row : VersionRow). row.name)
+    (option_or
+    (find (λ row. is_snap_of guid row && makes_cursor pair known guid row.name)
+    (option_map_or (λ rows. rows) known.source []))
+    (find (λ row. makes_cursor pair known guid row.name) known.marks))

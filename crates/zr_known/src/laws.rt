@@ -12,6 +12,7 @@ ghost use Rattle.zr_known.specs.declared.known.Receiving.TheVariants as receivin
 ghost use Rattle.zr_known.specs.Known.{arrival, is_own, known_of, nothing_known, told_by};
 ghost use Rattle.zr_known.specs.Replication.{MayGive, newest_known, plan_known};
 ghost use Rattle.zr_known.specs.Straight.{is_straight, IsForward};
+ghost use Rattle.zr_known.specs.declared.straight.TheConstants.{NOT_STRAIGHT};
 
 /// What a unit knows is a fold of its turns: nothing at first, and after one turn more what that turn tells.
 pub fn knowledge_is_told_turn_by_turn()
@@ -67,4 +68,9 @@ pub fn at_most_one_transfer_is_allowed()
 /// A straight pair has a plan that is done by transfers alone.
 pub fn a_straight_pair_is_replicated_by_transfers()
     ensures { (pair : Pair) (known : Known) → is_straight pair known ≡ true → IsForward (plan_known pair known) }
+{}
+
+/// The number of the conflict of a pair that is not straight.
+pub fn conflict_number()
+    ensures { NOT_STRAIGHT ≡ 20 }
 {}

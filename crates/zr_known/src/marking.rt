@@ -11,7 +11,7 @@ impl Known {
     ghost use Rattle.std.specs.Option.{option_copied, option_map_or, option_or};
     ghost use Rattle.zr_command.specs.Kinds.{is_snap_of};
     ghost use Rattle.zr_command.specs.declared.version.VersionName.{VersionName};
-    ghost use Rattle.zr_known.specs.Deciding.{makes_cursor, MakesCursor};
+    ghost use Rattle.zr_known.specs.Deciding.{cursor_source, makes_cursor, MakesCursor};
     ghost use Rattle.zr_known.specs.Known.{source_row};
 
     /// What a bookmark is made from: a listed snapshot, or a known mark.
@@ -77,7 +77,8 @@ impl Known {
     /// A version that the cursor of a guid may be made from: the first listed snapshot that has the guid, else the job's
     /// tentative cursor of it.
     pub fn cursor_source(&self, pair: &Pair, guid: Guid) -> Option<&VersionName>
-        ensures { MatchOption result
+        ensures first { option_copied result ≡ cursor_source pair.now self.now guid }
+        ensures makes { MatchOption result
             ((version : VersionName) → MakesCursor pair.now self.now guid version → ⊥)
             (λ version. MakesCursor pair.now self.now guid version.now) }
     {
