@@ -1,5 +1,4 @@
 use Rattle.std.proofs.Common.{◌≡◌, ◌∙◌, List, [], ◌∷◌, ◌++◌, Option, Some, None, ap, inl, inr, refl, sym, append_assoc}
-use Rattle.zr_names.specs.declared.unit.Unit.{Unit}
 use Rattle.zr_command.specs.declared.command.Answer.{Answer}
 use Rattle.zr_command.specs.declared.command.Answer.TheVariants as answer
 use Rattle.zr_command.specs.declared.command.Cmd.{Cmd}
@@ -7,10 +6,8 @@ use Rattle.zr_command.specs.declared.command.Entry.{Entry}
 use Rattle.zr_command.specs.declared.command.Entry.TheVariants.{Call}
 use Rattle.zr_world.specs.Answering.{appended, Logs}
 use Rattle.zr_command.specs.Plain.{plain}
-use Rattle.zr_jobs.specs.declared.job.JobSet.{JobSet}
-use Rattle.zr_permit.specs.Transcript.{Allowed, Legal, Transcript}
-use Rattle.zr_permit.specs.Turned.{calls, Records, RecordsLegal, RecordsRun, told_of}
-use Rattle.zr_permit.proofs.Legality.{legal-more}
+use Rattle.zr_permit.specs.Transcript.{Transcript}
+use Rattle.zr_permit.specs.Turned.{calls, Records, RecordsRun, told_of}
 
 calls-more : (turns : Transcript) (command : Cmd) (given : Answer) → calls (turns ++ (command, given) ∷ []) ≡ calls turns ++ Call (plain command) given ∷ []
 calls-more [] command given = refl
@@ -25,25 +22,16 @@ records-more (Some entries) before now turns command given records more =
     ∙ ap Some (append_assoc entries (calls turns) (Call (plain command) given ∷ []))
     ∙ ap (λ es. Some (entries ++ es)) (sym (calls-more turns command given))
 
--- no call more in a record
-pub records-legal : (base now : Option (List Entry)) (jobs : JobSet) (unit : Unit) (turns : Transcript) → Legal jobs unit turns → Records base now turns → RecordsLegal base now jobs unit
-records-legal base now jobs unit turns legal records = record {
-  kept = turns;
-  legal = legal;
-  records = records;
-}
-
 -- an allowed call, as it was logged
-pub records-run : (base before now : Option (List Entry)) (jobs : JobSet) (unit : Unit) (turns : Transcript) (command : Cmd) (given : Answer) → Legal jobs unit turns → Allowed jobs unit turns command → Logs before now (plain command) given → Records base before turns → RecordsRun base now jobs unit (turns ++ (command, given) ∷ []) (told_of given)
-records-run base before now jobs unit turns command (answer.Done reply) legal allowed logs records =
+pub records-run : (base before now : Option (List Entry)) (turns : Transcript) (command : Cmd) (given : Answer) → Logs before now (plain command) given → Records base before turns → RecordsRun base now turns (turns ++ (command, given) ∷ []) command (told_of given)
+records-run base before now turns command (answer.Done reply) logs records =
     records-more base before now turns command (answer.Done reply) records logs
-records-run base before now jobs unit turns command answer.Failed legal allowed logs records =
+records-run base before now turns command answer.Failed logs records =
     records-more base before now turns command answer.Failed records logs
-records-run base before now jobs unit turns command (answer.Garbled line) legal allowed logs records =
+records-run base before now turns command (answer.Garbled line) logs records =
     records-more base before now turns command (answer.Garbled line) records logs
-records-run base before now jobs unit turns command answer.NoMemory legal allowed logs records =
+records-run base before now turns command answer.NoMemory logs records =
     elim logs [
-      | inl same ↦ records-legal base now jobs unit turns legal (same ∙ records)
-      | inr logged ↦
-          records-legal base now jobs unit (turns ++ (command, logged.0) ∷ []) (legal-more jobs unit turns command logged.0 legal allowed) (records-more base before now turns command logged.0 records logged.1)
+      | inl same ↦ inr (refl, inl (same ∙ records))
+      | inr logged ↦ inr (refl, inr (logged.0, records-more base before now turns command logged.0 records logged.1))
     ]

@@ -1,16 +1,23 @@
-use Rattle.std.specs.Prelude.{⊤}
-use Rattle.std.proofs.Common.{◌≡◌, ◌∙◌, ℕ, List, [], ◌∷◌, Option, Some, None, ap, append-nil, append_assoc, inl, refl, subst, sym, true, false}
+use Rattle.std.proofs.Common.{◌≡◌, ◌∙◌, ◌⊎◌, ℕ, true, false, List, [], ◌∷◌, ◌++◌, Option, Some, None, ap, append-nil, append_assoc, inl, inr, refl, subst, sym}
+use Rattle.std.specs.List.{All}
+use Rattle.std.proofs.lemmas.List.Elements.{All-cons, All-head, All-nil, All-tail}
 use Rattle.zr_names.specs.declared.outcome.Outcome.{Outcome}
 use Rattle.zr_names.specs.declared.outcome.Outcome.TheVariants as outcome
 use Rattle.zr_names.specs.declared.unit.Unit.{Unit}
+use Rattle.zr_names.specs.declared.unit.Work.{Work}
+use Rattle.zr_command.specs.declared.command.Answer.{Answer}
+use Rattle.zr_command.specs.declared.command.Answer.TheVariants as answer
+use Rattle.zr_command.specs.declared.command.Cmd.{Cmd}
 use Rattle.zr_command.specs.declared.command.Entry.{Entry}
 use Rattle.zr_command.specs.declared.command.Entry.TheVariants.{Begin}
 use Rattle.zr_world.specs.Answering.{appended}
 use Rattle.zr_jobs.specs.declared.job.JobSet.{JobSet}
-use Rattle.zr_permit.specs.Result.{is_out_of_memory, ResultOf}
-use Rattle.zr_permit.specs.Runs.{HasRun, Ran}
-use Rattle.zr_permit.specs.Transcript.{Legal, Transcript}
-use Rattle.zr_permit.specs.Turned.{calls, Records, RecordsUnit}
+use Rattle.zr_permit.specs.Result.{is_out_of_memory, ResultOf, WantsMemory}
+use Rattle.zr_permit.specs.Runs.{EndsAs, GoesOnToTheLast, HasRun, Ran}
+use Rattle.zr_permit.specs.Sight.{HasEnded, HasJustBegun, Sight}
+use Rattle.zr_permit.specs.Transcript.{GoesOn, Legal, LegalAfter, Transcript, Turn}
+use Rattle.zr_permit.specs.Turned.{calls, Records, RecordsShort, RecordsUnit}
+use Rattle.zr_permit.proofs.Legality.{legal-answered, legal-front}
 
 -- what a record is after a begin and some calls
 after-begin : (before now : Option (List Entry)) (unit : Unit) (run : ℕ) (turns : Transcript) → Records (appended before (Begin unit run ∷ [])) now turns → now ≡ appended before (Begin unit run ∷ calls turns)
@@ -23,49 +30,98 @@ records-none : (base : Option (List Entry)) → Records base base []
 records-none None = refl
 records-none (Some entries) = ap Some (sym (append-nil entries))
 
-not-short : true ≡ false → ⊥
-not-short e = cc
+abbrev Wants : Work → Turn → Type 0
+Wants unit_work turn = GoesOn unit_work turn.0 turn.1 ⊎ (turn.1 ≡ answer.NoMemory)
+
+abbrev Goes : Work → Turn → Type 0
+Goes unit_work turn = GoesOn unit_work turn.0 turn.1
+
+-- nothing is allowed after a turn that does not let the unit go on, so it is the last
+to-the-last : (jobs : JobSet) (unit : Unit) (past turns : Transcript) → LegalAfter jobs unit past turns → All (Goes unit.work) past → WantsMemory unit.work turns → GoesOnToTheLast unit.work turns
+to-the-last jobs unit past [] legal went wants = record { front = []; goes_on = All-nil (Goes unit.work); parts = inl refl }
+to-the-last jobs unit past (turn ∷ []) legal went wants =
+    record { front = []; goes_on = All-nil (Goes unit.work); parts = inr (turn, refl) }
+to-the-last jobs unit past (turn ∷ (next ∷ turns)) legal went wants =
+    let goes = All-last past turn legal.1.0.goes_on in
+    let rest = to-the-last jobs unit (past ++ turn ∷ []) (next ∷ turns) legal.1 legal.1.0.goes_on (All-tail (Wants unit.work) turn (next ∷ turns) wants) in
+    record {
+      front = turn ∷ rest.front;
+      goes_on = All-cons (Goes unit.work) turn rest.front goes rest.goes_on;
+      parts = elim rest.parts [
+        | inl same ↦ inl (ap (λ (ts : Transcript). turn ∷ ts) same)
+        | inr last ↦ inr (last.0, ap (λ (ts : Transcript). turn ∷ ts) last.1)
+      ];
+    }
+  where
+    All-last : (past : Transcript) (turn : Turn) → All (Goes unit.work) (past ++ turn ∷ []) → Goes unit.work turn
+    All-last [] turn each = All-head (Goes unit.work) turn [] each
+    All-last (first ∷ past) turn each = All-last past turn (All-tail (Goes unit.work) first (past ++ turn ∷ []) each)
 
 -- a run, and what else is known of its transcript unless memory was refused
 abbrev pub RunWith : JobSet → Unit → ℕ → Option (List Entry) → Option (List Entry) → Outcome → (Transcript → Type 0) → Type 0
 RunWith jobs unit run before now ended Known =
     (ran : HasRun jobs unit run before now ended) × (is_out_of_memory ended ≡ false → Known ran.turns)
 
-has-run : (jobs : JobSet) (unit : Unit) (run : ℕ) (before now : Option (List Entry)) (turns : Transcript) (ended : Outcome) (Known : Transcript → Type 0) → Legal jobs unit turns → ResultOf jobs unit turns ended → RecordsUnit (appended before (Begin unit run ∷ [])) now jobs unit turns ended → Known turns → RunWith jobs unit run before now ended Known
-has-run jobs unit run before now turns outcome.NoMemory Known legal result records known = (
-  record {
-    turns = records.kept;
-    legal = records.legal;
-    result = λ ample. absurd (not-short ample);
-    recorded = after-begin before now unit run records.kept records.records;
-  },
-  λ ample. absurd (not-short ample),
-)
+-- where memory was refused, the record may have the last call with another answer, or lack it
+short-run : (jobs : JobSet) (unit : Unit) (run : ℕ) (before now : Option (List Entry)) (turns : Transcript) → Legal jobs unit turns → WantsMemory unit.work turns → RecordsUnit (appended before (Begin unit run ∷ [])) now turns outcome.NoMemory → HasRun jobs unit run before now outcome.NoMemory
+short-run jobs unit run before now turns legal wants (inl records) = record {
+  turns = turns;
+  legal = legal;
+  result = to-the-last jobs unit [] turns legal (All-nil (Goes unit.work)) wants;
+  recorded = after-begin before now unit run turns records;
+}
+short-run jobs unit run before now turns legal wants (inr short) =
+    let legal_short : Legal jobs unit (short.before ++ (short.command, answer.NoMemory) ∷ []) = subst (λ (ts : Transcript). Legal jobs unit ts) short.turns_are legal in
+    let goes = (legal-front jobs unit short.before short.command answer.NoMemory legal_short).1 in
+    elim short.cut [
+      | inl records ↦
+          record {
+            turns = short.before;
+            legal = (legal-front jobs unit short.before short.command answer.NoMemory legal_short).0;
+            result = record { front = short.before; goes_on = goes; parts = inl refl };
+            recorded = after-begin before now unit run short.before records;
+          }
+      | inr cut ↦
+          record {
+            turns = short.before ++ (short.command, cut.0) ∷ [];
+            legal = legal-answered jobs unit short.before short.command answer.NoMemory cut.0 legal_short;
+            result = record { front = short.before; goes_on = goes; parts = inr ((short.command, cut.0), refl) };
+            recorded = after-begin before now unit run (short.before ++ (short.command, cut.0) ∷ []) cut.1;
+          }
+    ]
+
+not-short : true ≡ false → ⊥
+not-short e = cc
+
+has-run : (jobs : JobSet) (unit : Unit) (run : ℕ) (before now : Option (List Entry)) (turns : Transcript) (ended : Outcome) (Known : Transcript → Type 0) → Legal jobs unit turns → ResultOf jobs unit turns ended → RecordsUnit (appended before (Begin unit run ∷ [])) now turns ended → Known turns → RunWith jobs unit run before now ended Known
+has-run jobs unit run before now turns outcome.NoMemory Known legal result records known =
+    (short-run jobs unit run before now turns legal result records, λ ample. absurd (not-short ample))
 has-run jobs unit run before now turns other Known legal result records known = (
   record {
     turns = turns;
     legal = legal;
-    result = λ ample. result;
+    result = result;
     recorded = after-begin before now unit run turns records;
   },
   λ ample. known,
 )
 
--- what a unit function says of its unit, once it has begun
-abbrev pub Says : Option (List Entry) → Option (List Entry) → Transcript → Outcome → JobSet → Unit → Type 0
-Says begun now turns ended jobs unit =
-    Legal jobs unit turns × ResultOf jobs unit turns ended × ((base : Option (List Entry)) → Records base begun [] → RecordsUnit base now jobs unit turns ended)
-
 -- a unit that began and ended has run, and what is known of its transcript
-pub ran-with : (jobs jobs' : JobSet) (unit unit' : Unit) (run : ℕ) (before begun now : Option (List Entry)) (turns : Transcript) (ended : Outcome) (Known : Transcript → Type 0) → jobs' ≡ jobs → unit' ≡ unit → begun ≡ appended before (Begin unit run ∷ []) → Legal jobs' unit' turns → ResultOf jobs' unit' turns ended → ((base : Option (List Entry)) → Records base begun [] → RecordsUnit base now jobs' unit' turns ended) → Known turns → RunWith jobs unit run before now ended Known
-ran-with jobs jobs' unit unit' run before begun now turns ended Known same_jobs same_unit begins legal result records known =
-    let by_jobs : JobSet → Type 0 = λ j. Says begun now turns ended j unit' in
-    let by_unit : Unit → Type 0 = λ u. Says begun now turns ended jobs u in
-    let says = subst by_unit same_unit (subst by_jobs same_jobs (legal, result, records)) in
-    let at : Option (List Entry) → Type 0 = λ base. RecordsUnit base now jobs unit turns ended in
-    has-run jobs unit run before now turns ended Known says.0 says.1 (subst at begins (says.2 begun (records-none begun))) known
+pub ran-with : (jobs : JobSet) (unit : Unit) (run : ℕ) (before : Option (List Entry)) (begun now : Sight) (ended : Outcome) (Known : Transcript → Type 0) → begun.jobs ≡ jobs → begun.unit ≡ unit → begun.told ≡ appended before (Begin unit run ∷ []) → HasJustBegun begun → Legal now.jobs now.unit now.turns → HasEnded begun now ended → Known now.turns → RunWith jobs unit run before now.told ended Known
+ran-with jobs unit run before begun now ended Known same_jobs same_unit begins fresh legal has known =
+    let legal_jobs : JobSet → Type 0 = λ j. Legal j now.unit now.turns in
+    let legal_unit : Unit → Type 0 = λ u. Legal jobs u now.turns in
+    let result_jobs : JobSet → Type 0 = λ j. ResultOf j begun.unit now.turns ended in
+    let result_unit : Unit → Type 0 = λ u. ResultOf jobs u now.turns ended in
+    let from : Option (List Entry) → Type 0 = λ base. RecordsUnit base now.told now.turns ended in
+    let empty : Transcript → Type 0 = λ ts. Records begun.told begun.told ts in
+    has-run jobs unit run before now.told now.turns ended Known
+    (subst legal_unit (has.went.same_unit ∙ same_unit) (subst legal_jobs (has.went.same_jobs ∙ same_jobs) legal))
+    (subst result_unit same_unit (subst result_jobs same_jobs has.result))
+    (subst from begins (has.records begun.told (subst empty (sym fresh.no_turns) (records-none begun.told))))
+    known
 
 -- a unit that began and ended has run
-pub ran-begun : (jobs jobs' : JobSet) (unit unit' : Unit) (run : ℕ) (before begun now : Option (List Entry)) (turns : Transcript) (ended : Outcome) → jobs' ≡ jobs → unit' ≡ unit → begun ≡ appended before (Begin unit run ∷ []) → Legal jobs' unit' turns → ResultOf jobs' unit' turns ended → ((base : Option (List Entry)) → Records base begun [] → RecordsUnit base now jobs' unit' turns ended) → Ran jobs unit run before now ended
-ran-begun jobs jobs' unit unit' run before begun now turns ended same_jobs same_unit begins legal result records =
-    inl (ran-with jobs jobs' unit unit' run before begun now turns ended (λ ts. ⊤) same_jobs same_unit begins legal result records tt).0
+pub ran-begun : (jobs : JobSet) (unit : Unit) (run : ℕ) (before : Option (List Entry)) (begun now : Sight) (ended : Outcome) → begun.jobs ≡ jobs → begun.unit ≡ unit → begun.told ≡ appended before (Begin unit run ∷ []) → HasJustBegun begun → Legal now.jobs now.unit now.turns → HasEnded begun now ended → Ran jobs unit run before now.told ended
+ran-begun jobs unit run before begun now ended same_jobs same_unit begins fresh legal has =
+    inl (ran-with jobs unit run before begun now ended (λ ts. Legal now.jobs now.unit now.turns) same_jobs same_unit begins fresh legal has legal).0

@@ -1,4 +1,4 @@
-use Rattle.std.specs.Prelude.{⊤, ◌≡◌, ℕ, ◌+◌, ◌-◌, ◌^◌, ◌<◌, List, [], ◌∷◌, Some, All, Contains, Bool, true, false, count_by, filter, length, map, min, not, slice_get}
+use Rattle.std.specs.Prelude.{◌≡◌, ◌⊎◌, ℕ, ◌+◌, ◌-◌, ◌^◌, ◌<◌, List, [], ◌∷◌, Some, All, Contains, Bool, true, false, count_by, filter, length, map, min, not, slice_get}
 use Rattle.zr_names.specs.declared.outcome.Outcome.{Outcome}
 use Rattle.zr_names.specs.declared.outcome.Outcome.TheVariants as outcome
 use Rattle.zr_names.specs.declared.unit.Unit.{Unit}
@@ -104,7 +104,12 @@ pub record GarbledAt (turns : Transcript) (number line : ℕ) : Type 0 where
   pub garbled : slice_get turns place ≡ Some (command, answer.Garbled line)
   pub number_is : number ≡ capped (place + 1)
 
--- the result of a transcript; memory may be refused at any time
+-- no command failed and no listing was garbled, but for what the unit goes on after: want of memory may be answered by the
+-- last command, or refused between commands
+abbrev pub WantsMemory : Work → Transcript → Type 0
+WantsMemory unit_work turns = All (λ turn. GoesOn unit_work turn.0 turn.1 ⊎ (turn.1 ≡ answer.NoMemory)) turns
+
+-- the result of a transcript
 abbrev pub ResultOf : JobSet → Unit → Transcript → Outcome → Type 0
 ResultOf jobs unit turns (outcome.Scanned found too_long) = HasScanned jobs unit turns found too_long
 ResultOf jobs unit turns (outcome.Pruned destroyed busy) = HasPruned jobs unit turns destroyed busy
@@ -113,7 +118,7 @@ ResultOf jobs unit turns (outcome.Replicated steps) = HasReplicated jobs unit tu
 ResultOf jobs unit turns (outcome.Conflict number) = HasConflict jobs unit turns number
 ResultOf jobs unit turns (outcome.ChildFault number) = FaultsAt unit.work turns number
 ResultOf jobs unit turns (outcome.Garbled number line) = GarbledAt turns number line
-ResultOf jobs unit turns outcome.NoMemory = ⊤
+ResultOf jobs unit turns outcome.NoMemory = WantsMemory unit.work turns
 ResultOf jobs unit turns other = ⊥
 
 -- how a unit ends whose command of this number was not done

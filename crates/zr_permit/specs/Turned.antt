@@ -10,9 +10,7 @@ use Rattle.zr_permit.specs.declared.told.Told.{Told}
 use Rattle.zr_permit.specs.declared.told.Told.TheVariants as told
 use Rattle.zr_names.specs.declared.outcome.Outcome.{Outcome}
 use Rattle.zr_names.specs.declared.outcome.Outcome.TheVariants as outcome
-use Rattle.zr_names.specs.declared.unit.Unit.{Unit}
-use Rattle.zr_jobs.specs.declared.job.JobSet.{JobSet}
-use Rattle.zr_permit.specs.Transcript.{Legal, Transcript, Turn}
+use Rattle.zr_permit.specs.Transcript.{Transcript, Turn}
 
 -- what a unit is told of an answer
 abbrev pub told_of : Answer → Told
@@ -50,19 +48,29 @@ Turns before after command given = HasTurned before after command given
 abbrev pub Records : Option (List Entry) → Option (List Entry) → Transcript → Type 0
 Records base now turns = now ≡ appended base (calls turns)
 
--- a runner's record begins with a base and goes on with the calls of some legal transcript of the unit
-pub record RecordsLegal (base now : Option (List Entry)) (jobs : JobSet) (unit : Unit) : Type 0 where
-  pub kept : Transcript
-  pub legal : Legal jobs unit kept
-  pub records : Records base now kept
+-- a record that has the calls of some turns, and at its end perhaps one of a further command, with any answer
+abbrev pub RecordsCut : Option (List Entry) → Option (List Entry) → Transcript → Cmd → Type 0
+RecordsCut base now turns command =
+    Records base now turns ⊎ ((got : Answer) × Records base now (turns ++ (command, got) ∷ []))
 
--- after a run the record goes on with the calls of the new transcript; where memory was refused, the last
--- call may be missing, or stand with another answer
-abbrev pub RecordsRun : Option (List Entry) → Option (List Entry) → JobSet → Unit → Transcript → Told → Type 0
-RecordsRun base now jobs unit after told.NoMemory = RecordsLegal base now jobs unit
-RecordsRun base now jobs unit after given = Records base now after
+-- after a run the record goes on with the calls of the new transcript. Where memory was refused, either no child was started,
+-- and record and transcript are as before; or the one call was answered and stands last, with want of memory for its
+-- answer, and in the record its call may be missing or stand with another answer
+abbrev pub RecordsRun : Option (List Entry) → Option (List Entry) → Transcript → Transcript → Cmd → Told → Type 0
+RecordsRun base now before after command told.NoMemory =
+    ((after ≡ before) × Records base now before)
+    ⊎ ((after ≡ before ++ (command, answer.NoMemory) ∷ []) × RecordsCut base now before command)
+RecordsRun base now before after command given = Records base now after
 
--- the same once the unit has its outcome
-abbrev pub RecordsUnit : Option (List Entry) → Option (List Entry) → JobSet → Unit → Transcript → Outcome → Type 0
-RecordsUnit base now jobs unit turns outcome.NoMemory = RecordsLegal base now jobs unit
-RecordsUnit base now jobs unit turns other = Records base now turns
+-- a record that has the calls of a transcript whose last one was answered by want of memory: its call may be missing, or
+-- stand with another answer
+pub record RecordsShort (base now : Option (List Entry)) (turns : Transcript) : Type 0 where
+  pub before : Transcript
+  pub command : Cmd
+  pub turns_are : turns ≡ before ++ (command, answer.NoMemory) ∷ []
+  pub cut : RecordsCut base now before command
+
+-- the record once the unit has its outcome
+abbrev pub RecordsUnit : Option (List Entry) → Option (List Entry) → Transcript → Outcome → Type 0
+RecordsUnit base now turns outcome.NoMemory = Records base now turns ⊎ RecordsShort base now turns
+RecordsUnit base now turns other = Records base now turns

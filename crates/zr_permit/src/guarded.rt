@@ -6,14 +6,13 @@ use zr_jobs::JobSet;
 use zr_names::{Outcome, Unit};
 use zr_world::Zfs;
 
-/// A unit at work with its runner. It gives only commands that it is allowed to give.
+/// A unit at work with its runner. It gives only commands that it is allowed to give, and none once memory was refused to it.
 #[derive(Drop)]
-pub struct Guarded<'a, Z> {
+pub struct Guarded<'a, Z: Zfs> {
     alloc: Global,
-    pub log: Log<'a>,
-    pub z: &'a mut Z,
-    /// Memory was refused to this unit, so it can give no further command.
-    pub short: bool,
+    log: Log<'a>,
+    z: &'a mut Z,
+    out_of_memory: bool,
 }
 
 /// A unit that could not begin for want of memory, and the runner.
@@ -24,9 +23,10 @@ pub struct Unbegun<'a, Z> {
 }
 
 impl<'a, Z: Zfs> Guarded<'a, Z> {
-    ghost use Rattle.std.specs.Prelude.{◌≡◌, ◌≢◌, ◌≤◌, ◌<◌, ◌++◌, ◌∷◌, [], IfOk, IfErr, List, Option, false, length};
+    ghost use Rattle.std.specs.Prelude.{◌≡◌, ◌≢◌, ◌∷◌, [], IfOk, IfErr, List, Option, false, length};
     ghost use Rattle.zr_jobs.specs.Jobs.{IsOfFile};
     ghost use Rattle.zr_permit.specs.Result.{ended_as};
+    ghost use Rattle.zr_permit.specs.Sight.{HasEnded, HasJustBegun, IsAtWork, sight, Went};
     ghost use Rattle.zr_permit.specs.Transcript.{Allowed, Legal};
     ghost use Rattle.std.specs.Option.{option_copied};
     ghost use Rattle.zr_permit.specs.Turned.{last_answer, Records, RecordsRun, Turns, is_short};
@@ -44,16 +44,16 @@ impl<'a, Z: Zfs> Guarded<'a, Z> {
         z: &'a mut Z,
     ) -> Result<Guarded<'a, Z>, Unbegun<'a, Z>>
         requires { IsOfFile jobs.now unit }
-        ensures jobs { IfOk result (λ g. g.log.jobs ≡ jobs.now) }
-        ensures unit { IfOk result (λ g. g.log.unit ≡ unit) }
-        ensures turns { IfOk result (λ g. g.log.turns ≡ []) }
-        ensures ample { IfOk result (λ g. g.short ≡ false) }
-        ensures faults { IfOk result (λ g. Z.faults g.z.now ≡ Z.faults z.entry.now) }
-        ensures told { IfOk result (λ g.
-            Z.told g.z.now ≡ appended (Z.told z.entry.now) (Begin unit run ∷ [])) }
+        ensures jobs { IfOk result (λ g. (sight Z.Zfs g).jobs ≡ jobs.now) }
+        ensures unit { IfOk result (λ g. (sight Z.Zfs g).unit ≡ unit) }
+        ensures begun { IfOk result (λ g. HasJustBegun (sight Z.Zfs g)) }
+        ensures faults { IfOk result (λ g. (sight Z.Zfs g).faults ≡ Z.faults z.entry.now) }
+        ensures pools { IfOk result (λ g. (sight Z.Zfs g).pools ≡ Z.pools z.entry.now) }
+        ensures told { IfOk result (λ g. (sight Z.Zfs g).told ≡ appended (Z.told z.entry.now) (Begin unit run ∷ [])) }
         ensures runner { IfOk result (λ g. g.z.ghost_name ≡ z.entry.ghost_name) }
         ensures unbegun { IfErr result (λ u. u.unit ≡ unit) }
         ensures unbegun_faults { IfErr result (λ u. Z.faults u.z.now ≡ Z.faults z.entry.now) }
+        ensures unbegun_pools { IfErr result (λ u. Z.pools u.z.now ≡ Z.pools z.entry.now) }
         ensures unbegun_told { IfErr result (λ u. Z.told u.z.now ≡ Z.told z.entry.now) }
         ensures unbegun_runner { IfErr result (λ u. u.z.ghost_name ≡ z.entry.ghost_name) }
     {
@@ -62,34 +62,34 @@ impl<'a, Z: Zfs> Guarded<'a, Z> {
                 alloc,
                 log: Log::new(alloc, jobs, unit),
                 z,
-                short: false,
+                out_of_memory: false,
             }),
             Err(_) => Err(Unbegun { unit, z }),
         }
     }
 
     pub fn unit(&self) -> &Unit
-        ensures { result.now ≡ self.now.log.unit }
+        ensures { result.now ≡ (sight Z.Zfs self.now).unit }
     {
         self.log.unit()
     }
 
     pub fn jobs(&self) -> &'a JobSet
-        ensures { result.now ≡ self.now.log.jobs }
+        ensures { result.now ≡ (sight Z.Zfs self.now).jobs }
     {
         self.log.jobs()
     }
 
     pub fn transcript(&self) -> &[(Cmd, Answer)]
-        ensures turns { result.now ≡ self.now.log.turns }
-        ensures legal { Legal self.now.log.jobs self.now.log.unit self.now.log.turns }
+        ensures turns { result.now ≡ (sight Z.Zfs self.now).turns }
+        ensures legal { Legal (sight Z.Zfs self.now).jobs (sight Z.Zfs self.now).unit (sight Z.Zfs self.now).turns }
     {
         self.log.turns()
     }
 
     /// How the last command was answered.
     pub fn last(&self) -> Option<&Answer>
-        ensures { option_copied result ≡ last_answer self.now.log.turns }
+        ensures { option_copied result ≡ last_answer (sight Z.Zfs self.now).turns }
     {
         match self.log.turns().last() {
             Some((_, answer)) => Some(answer),
@@ -98,18 +98,19 @@ impl<'a, Z: Zfs> Guarded<'a, Z> {
     }
 
     /// How the unit ends where memory is refused between its commands.
+    #[tactic(auto, using(crate::proofs::Ending::ended_memory))]
     pub fn out_of_memory(&self) -> Outcome
+        requires at_work { IsAtWork (sight Z.Zfs self.now) }
         ensures outcome { result ≡ Outcome.NoMemory }
-        ensures legal { Legal self.now.log.jobs self.now.log.unit self.now.log.turns }
+        ensures ended { HasEnded (sight Z.Zfs self.now) (sight Z.Zfs self.now) result }
     {
-        let _legal = self.log.turns();
         Outcome::NoMemory
     }
 
     /// How the unit ends after a command that was not done, by its number.
     pub fn ended(&self, told: Told) -> Outcome
         requires { told ≢ Told.Done }
-        ensures { result ≡ ended_as (length self.now.log.turns) told }
+        ensures { result ≡ ended_as (length (sight Z.Zfs self.now).turns) told }
     {
         let number = u32::try_from(self.log.turns().len()).unwrap_or(u32::MAX);
         match told {
@@ -122,30 +123,25 @@ impl<'a, Z: Zfs> Guarded<'a, Z> {
 
     /// Gives a command, and keeps it with its answer. Where no room is left for them no child is started.
     pub fn run(&mut self, cmd: Cmd) -> Told
-        requires allowed { Allowed self.old.log.jobs self.old.log.unit self.old.log.turns cmd }
-        requires ample { self.old.short ≡ false }
-        ensures jobs { self.new.log.jobs ≡ self.old.log.jobs }
-        ensures unit { self.new.log.unit ≡ self.old.log.unit }
-        ensures turns { Turns self.old.log.turns self.new.log.turns cmd result }
-        ensures short { self.new.short ≡ is_short result }
-        ensures later { Z.faults self.old.z.now ≤ Z.faults self.new.z.now }
-        ensures rose { result ≡ Told.Failed → Rose (Z.faults self.old.z.now) (Z.faults self.new.z.now) }
-        ensures records { (base : Option (List Entry)) →
-            Records base (Z.told self.old.z.now) self.old.log.turns →
-            RecordsRun base (Z.told self.new.z.now)
-            self.old.log.jobs self.old.log.unit self.new.log.turns result }
+        requires allowed { Allowed (sight Z.Zfs self.old).jobs (sight Z.Zfs self.old).unit (sight Z.Zfs self.old).turns cmd }
+        requires memory { (sight Z.Zfs self.old).out_of_memory ≡ false }
+        ensures went { Went (sight Z.Zfs self.old) (sight Z.Zfs self.new) }
+        ensures turns { Turns (sight Z.Zfs self.old).turns (sight Z.Zfs self.new).turns cmd result }
+        ensures memory { (sight Z.Zfs self.new).out_of_memory ≡ is_short result }
+        ensures rose { result ≡ Told.Failed → Rose (sight Z.Zfs self.old).faults (sight Z.Zfs self.new).faults }
+        ensures records { (base : Option (List Entry)) → Records base (sight Z.Zfs self.old).told (sight Z.Zfs self.old).turns →
+            RecordsRun base (sight Z.Zfs self.new).told (sight Z.Zfs self.old).turns (sight Z.Zfs self.new).turns cmd result }
         ensures runner { self.new.z.ghost_name ≡ self.old.z.ghost_name }
     {
-        let _legal = self.log.turns();
         if self.log.make_room().is_err() {
-            self.short = true;
+            self.out_of_memory = true;
             // Let go here: at the early exit it would be proved again.
             drop(cmd);
             return Told::NoMemory;
         }
         let answer = self.z.run(&cmd);
         let told = Told::of(&answer);
-        self.short = told.is_short();
+        self.out_of_memory = told.is_short();
         self.log.note(cmd, answer);
         told
     }
@@ -159,7 +155,7 @@ impl<'a, Z: Zfs> Guarded<'a, Z> {
             z,
             log: _,
             alloc: _,
-            short: _,
+            out_of_memory: _,
         } = self;
         z
     }

@@ -1,8 +1,11 @@
-use Rattle.std.proofs.Common.{◌≡◌, ◌≢◌, ◌∙◌, ℕ, ◌+◌, ◌-◌, ◌<◌, ◌≤◌, ◌^◌, Bool, true, List, [], ◌∷◌, ◌++◌, Some, ap, refl, sym, subst, arith, length, length-take-le, map, min, take, take_all, get_or, cond, zero-add, add-zero, ◌⊎◌, inl, inr}
+use Rattle.std.proofs.Common.{◌≡◌, ◌≢◌, ◌∙◌, ℕ, ◌+◌, ◌-◌, ◌<◌, ◌≤◌, ◌^◌, Bool, true, false, List, [], ◌∷◌, ◌++◌, Option, Some, ap, refl, sym, subst, arith, length, length-take-le, map, min, take, take_all, get_or, cond, zero-add, add-zero, ◌⊎◌, inl, inr}
 use Rattle.std.specs.List.{All, AllPairs, count_by, Contains}
 use Rattle.std.proofs.lemmas.List.Sums.{sum_by-append}
 use Rattle.std.proofs.lemmas.List.{get_or-map, get_or-take, get_or_default, length-map, map-append, take_more}
 use Rattle.std.proofs.lemmas.List.Elements.{All-cons, All-head, All-map, All-nil, All-push, All-tail, Contains-append_right, Contains-get_or}
+use Rattle.zr_base.specs.Count.{Rose}
+use Rattle.zr_names.specs.declared.outcome.Outcome.{Outcome}
+use Rattle.zr_names.specs.declared.outcome.Outcome.TheVariants as outcome
 use Rattle.zr_names.specs.declared.unit.Unit.{Unit}
 use Rattle.zr_names.specs.declared.unit.Work.{Work}
 use Rattle.zr_names.specs.declared.unit.Work.TheVariants as work
@@ -10,6 +13,7 @@ use Rattle.zr_command.specs.declared.command.Answer.{Answer}
 use Rattle.zr_command.specs.declared.command.Answer.TheVariants as answer
 use Rattle.zr_command.specs.declared.command.Cmd.{Cmd}
 use Rattle.zr_command.specs.declared.command.Cmd.TheVariants as cmd
+use Rattle.zr_command.specs.declared.command.Entry.{Entry}
 use Rattle.std.specs.Cmp.Lexicographic.{nat_list_eq_equiv, pointwise}
 use Rattle.std.specs.Prelude.{nat_eq}
 use Rattle.zr_command.specs.declared.command.Reply.{Reply}
@@ -23,11 +27,13 @@ use Rattle.zr_permit.specs.declared.told.Told.{Told}
 use Rattle.zr_permit.specs.declared.told.Told.TheVariants as told
 use Rattle.zr_jobs.specs.Jobs.{job_at, rules_of}
 use Rattle.zr_permit.specs.Keep.{doomed}
-use Rattle.zr_permit.specs.Result.{capped, HasPruned, is_done_destroy, is_failed_destroy}
+use Rattle.zr_permit.specs.Result.{capped, ended_as, HasPruned, is_done_destroy, is_failed_destroy}
 use Rattle.zr_permit.specs.Transcript.{Allowed, doomed_in, GoesOn, listed, Permits, Transcript, Turn}
-use Rattle.zr_permit.specs.Turned.{HasTurned, told_of}
+use Rattle.zr_permit.specs.Turned.{HasTurned, Records, RecordsRun, told_of, Turns}
+use Rattle.zr_permit.specs.Sight.{Follows, HasEnded, HasJustBegun, Sight, Went}
+use Rattle.zr_permit.proofs.Ending.{begun-at-work, ended-on, ended-undone}
 use Rattle.zr_permit.proofs.Listing.{listed-more}
-use Rattle.zr_prune.specs.Pruning.{Pruning}
+use Rattle.zr_prune.specs.Pruning.{HasGivenAll, IsPruning, Pruning}
 
 -- the commands of some turns
 abbrev pub commands : Transcript → List Cmd
@@ -233,3 +239,43 @@ pub listing-ends : (unit_work : Work) (own path : List ℕ) → unit_work ≡ wo
 listing-ends unit_work own path is goes =
     let Goes : Work → Type 0 = λ w. GoesOn w (cmd.Versions path) answer.Failed in
     subst Goes is goes
+
+no-fault : false ≡ true → ⊥
+no-fault e = cc
+
+-- the unit has ended once all doomed snapshots were given for destruction
+pub pruned-ended : (before now : Sight) (path : List ℕ) (names : List (List ℕ)) (place destroyed busy : ℕ) → Went before now → Follows before now → IsPruning now path names (take place names) → length names ≤ place → destroyed ≡ capped (done_count now.turns) → busy ≡ capped (failed_count now.turns) → HasEnded before now (outcome.Pruned destroyed busy)
+pruned-ended before now path names place destroyed busy went follows pruning all done failed = record {
+  went = went;
+  result = has-pruned before.jobs before.unit path names place now.turns destroyed busy (pruning-same now.jobs before.jobs now.unit before.unit path names (take place names) now.turns (sym went.same_jobs) (sym went.same_unit) pruning) all done failed;
+  records = follows;
+  rose = λ fault. absurd (no-fault fault);
+}
+
+short-undone : told.NoMemory ≢ told.Done
+short-undone e = cc
+
+not-failing : told.NoMemory ≡ told.Failed → ⊥
+not-failing e = cc
+
+-- and where memory was refused to a destroy
+pub destroys-ended : (first before now : Sight) (path : List ℕ) (names given : List (List ℕ)) (command : Cmd) → Went first before → Follows first before → before.out_of_memory ≡ false → IsPruning before path names given → Went before now → Turns before.turns now.turns command told.NoMemory → ((base : Option (List Entry)) → Records base before.told before.turns → RecordsRun base now.told before.turns now.turns command told.NoMemory) → HasEnded first now outcome.NoMemory
+destroys-ended first before now path names given command went follows memory pruning more turns records =
+    ended-on first before now outcome.NoMemory went follows
+    (ended-undone before now command told.NoMemory outcome.NoMemory (record { with_memory = memory; goes_on = pruning.goes_on }) more turns (λ failed. absurd (not-failing failed)) records short-undone (λ failed. absurd (not-failing failed)) refl)
+
+-- the unit has ended where its listing was not done
+pub listing-ended : (before now : Sight) (path : List ℕ) (given : Told) (ended : Outcome) → HasJustBegun before → before.unit.work ≡ work.PruneSource path → Went before now → Turns before.turns now.turns (cmd.Versions path) given → (given ≡ told.Failed → Rose before.faults now.faults) → ((base : Option (List Entry)) → Records base before.told before.turns → RecordsRun base now.told before.turns now.turns (cmd.Versions path) given) → given ≢ told.Done → ended ≡ ended_as (length now.turns) given → HasEnded before now ended
+listing-ended before now path given ended begun is went turns rose records undone ended_is =
+    ended-undone before now (cmd.Versions path) given ended (begun-at-work before begun) went turns rose records undone (λ failed. listing-ends before.unit.work path path is) ended_is
+
+-- each doomed snapshot was given for destruction once
+pub given-all : (now : Sight) (path : List ℕ) (names : List (List ℕ)) (place busy : ℕ) → IsPruning now path names (take place names) → length names ≤ place → busy ≡ capped (failed_count now.turns) → HasGivenAll now busy
+given-all now path names place busy pruning all failed =
+    let Given : List (List ℕ) → Type 0 = λ given. IsPruning now path names given in
+    record {
+      path = path;
+      names = names;
+      pruning = subst Given (take_all place names all) pruning;
+      busy_are = failed;
+    }

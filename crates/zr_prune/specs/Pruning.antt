@@ -1,4 +1,6 @@
-use Rattle.std.specs.Prelude.{⊤, ◌≡◌, ◌≢◌, ℕ, List, [], ◌∷◌, Some, All, AllPairs, map}
+use Rattle.std.specs.Prelude.{⊤, ◌≡◌, ◌≢◌, ℕ, List, [], ◌∷◌, Some, All, AllPairs, count_by, map}
+use Rattle.zr_names.specs.declared.outcome.Outcome.{Outcome}
+use Rattle.zr_names.specs.declared.outcome.Outcome.TheVariants as outcome
 use Rattle.zr_names.specs.declared.unit.Unit.{Unit}
 use Rattle.zr_names.specs.declared.unit.Work.{Work}
 use Rattle.zr_names.specs.declared.unit.Work.TheVariants as work
@@ -9,6 +11,8 @@ use Rattle.zr_command.specs.declared.version.VersionRow.{VersionRow}
 use Rattle.zr_jobs.specs.declared.job.JobSet.{JobSet}
 use Rattle.zr_jobs.specs.Jobs.{job_at, rules_of}
 use Rattle.zr_permit.specs.Keep.{doomed}
+use Rattle.zr_permit.specs.Result.{capped, is_failed_destroy}
+use Rattle.zr_permit.specs.Sight.{Sight}
 use Rattle.zr_permit.specs.Transcript.{GoesOn, listed, Transcript, Turn}
 
 -- the work is to prune a source dataset
@@ -31,3 +35,19 @@ pub record Pruning (jobs : JobSet) (unit : Unit) (path : List ℕ) (names given 
   pub names_are : names ≡ doomed (rules_of (job_at jobs unit.job)) rows
   pub names_differ : AllPairs (λ a b. a ≢ b) names
   pub commands : map (λ (turn : Turn). turn.0) turns ≡ cmd.Versions path ∷ map (cmd.DestroySnap path) given
+
+-- the same, of what is seen of the unit
+abbrev pub IsPruning : Sight → List ℕ → List (List ℕ) → List (List ℕ) → Type 0
+IsPruning now path names given = Pruning now.jobs now.unit path names given now.turns
+
+-- the unit has listed its dataset once and given each doomed snapshot once for destruction, of which so many failed
+pub record HasGivenAll (now : Sight) (busy : ℕ) : Type 0 where
+  pub path : List ℕ
+  pub names : List (List ℕ)
+  pub pruning : IsPruning now path names names
+  pub busy_are : busy ≡ capped (count_by (λ (turn : Turn). is_failed_destroy turn.0 turn.1) now.turns)
+
+-- so it ends where it has finished
+abbrev pub IsPruned : Sight → Outcome → Type 0
+IsPruned now (outcome.Pruned destroyed busy) = HasGivenAll now busy
+IsPruned now other = ⊤

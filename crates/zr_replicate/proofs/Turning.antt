@@ -1,6 +1,7 @@
-use Rattle.std.proofs.Common.{arith, ◌≡◌, ◌≢◌, ◌∙◌, List, [], ◌∷◌, ◌++◌, ℕ, false, true≢false, ap, length, refl, sym, subst}
-use Rattle.std.specs.List.{All}
-use Rattle.std.proofs.lemmas.List.Elements.{All-push}
+use Rattle.std.specs.Bool.{if◌then◌else◌}
+use Rattle.std.specs.List.{count_by}
+use Rattle.std.proofs.lemmas.Bool.Decides.{Decides-eqb}
+use Rattle.std.proofs.Common.{◌≡◌, ◌≢◌, ◌∙◌, ◌<◌, ◌==◌, arith, Bool, true, zero, suc, List, [], ◌∷◌, ◌++◌, ℕ, false, Option, Result, Ok, Err, ap, length, refl, sym, subst}
 use Rattle.zr_base.specs.Count.{Rose}
 use Rattle.zr_names.specs.declared.outcome.Outcome.{Outcome}
 use Rattle.zr_names.specs.declared.unit.Unit.{Unit}
@@ -14,15 +15,23 @@ use Rattle.zr_command.specs.declared.command.Reply.{Reply}
 use Rattle.zr_known.specs.declared.known.Known.{Known}
 use Rattle.zr_jobs.specs.declared.pair.Pair.{Pair}
 use Rattle.zr_jobs.specs.declared.job.JobSet.{JobSet}
+use Rattle.zr_command.specs.declared.command.Entry.{Entry}
+use Rattle.zr_permit.specs.declared.told.Told.{Told}
 use Rattle.zr_permit.specs.declared.told.Told.TheVariants as told
 use Rattle.zr_jobs.specs.Jobs.{job_at, pair_of}
 use Rattle.zr_known.specs.Known.{known_of, nothing_known, told_by}
-use Rattle.zr_permit.specs.Result.{ended_as}
-use Rattle.zr_permit.specs.Transcript.{GoesOn, Transcript, Turn}
-use Rattle.zr_permit.specs.Turned.{HasTurned, told_of}
-use Rattle.zr_permit.proofs.Ending.{ended-result}
+use Rattle.zr_names.specs.declared.outcome.Outcome.TheVariants as outcome
+use Rattle.zr_known.specs.declared.straight.TheConstants.{NOT_STRAIGHT}
+use Rattle.zr_known.specs.Straight.{has_listed, is_straight, IsFinished}
+use Rattle.zr_permit.specs.Result.{capped, ended_as, HasReplicated, is_done_transfer}
+use Rattle.zr_permit.specs.Sight.{HasEnded, HasJustBegun, Sight, Went}
+use Rattle.zr_permit.specs.Transcript.{GoesOn, Turn}
+use Rattle.zr_permit.specs.Turned.{HasTurned, Records, RecordsRun, told_of, Turns}
+use Rattle.zr_permit.proofs.Ending.{at-work-more, begun-at-work, ended-on, ended-undone, went-nowhere, went-on}
 use Rattle.zr_known.proofs.Knowing.{known-more}
-use Rattle.zr_replicate.specs.Working.{AtWork, Follows, HasEnded, Learnt, Sight, Went}
+use Rattle.zr_replicate.specs.Listing.{OnlyLists}
+use Rattle.zr_replicate.specs.Replicating.{finished_with, IsPairOf}
+use Rattle.zr_replicate.specs.Working.{AtWork, GoesOnWith, Learnt, Stage}
 
 done-is : (got : Answer) → told.Done ≡ told_of got → (given : Reply) × (got ≡ Done given)
 done-is (Done given) e = (given, refl)
@@ -30,24 +39,16 @@ done-is answer.Failed e = cc
 done-is (answer.Garbled line) e = cc
 done-is answer.NoMemory e = cc
 
-goes-on : (unit_work : Work) (command : Cmd) (given : Reply) → GoesOn unit_work command (Done given)
-goes-on unit_work command given = tt
-
 -- after a command that was done the unit is at work, and knows what it told
-pub at-work-more : (pair : Pair) (knew known : Known) (before now : Sight) (command : Cmd) → AtWork pair knew before → now.jobs ≡ before.jobs → now.unit ≡ before.unit → now.short ≡ false → HasTurned before.turns now.turns command told.Done → Learnt pair now.turns knew known → AtWork pair known now
-at-work-more pair knew known before now command at same_jobs same_unit ample turned learnt =
+pub knows-more : (pair : Pair) (knew known : Known) (before now : Sight) (command : Cmd) → AtWork pair knew before → Went before now → now.out_of_memory ≡ false → HasTurned before.turns now.turns command told.Done → Learnt pair now.turns knew known → AtWork pair known now
+knows-more pair knew known before now command at went memory turned learnt =
     let done = done-is turned.got turned.told_is in
     let given : Reply = done.0 in
     let turns : now.turns ≡ before.turns ++ (command, Done given) ∷ [] = turned.turns_are ∙ ap (λ (a : Answer). before.turns ++ (command, a) ∷ []) done.1 in
-    let Goes : Turn → Type 0 = λ turn. GoesOn before.unit.work turn.0 turn.1 in
-    let goes : All Goes (before.turns ++ (command, Done given) ∷ []) = All-push Goes before.turns (command, Done given) at.goes_on (goes-on before.unit.work command given) in
-    let of_unit : Unit → Type 0 = λ u. All (λ (turn : Turn). GoesOn u.work turn.0 turn.1) now.turns in
-    let of_turns : Transcript → Type 0 = λ ts. All Goes ts in
     record {
-      work_is = ap (λ (u : Unit). u.work) same_unit ∙ at.work_is;
-      pair_is = ap (λ (j : JobSet). pair_of (job_at j now.unit.job) pair.source) same_jobs ∙ ap (λ (u : Unit). pair_of (job_at before.jobs u.job) pair.source) same_unit ∙ at.pair_is;
-      ample = ample;
-      goes_on = subst of_unit (sym same_unit) (subst of_turns (sym turns) goes);
+      work_is = ap (λ (u : Unit). u.work) went.same_unit ∙ at.work_is;
+      pair_is = ap (λ (j : JobSet). pair_of (job_at j now.unit.job) pair.source) went.same_jobs ∙ ap (λ (u : Unit). pair_of (job_at before.jobs u.job) pair.source) went.same_unit ∙ at.pair_is;
+      at_work = at-work-more before now command at.at_work went turned memory;
       known_is =
           learnt before.turns command given turns
           ∙ ap (told_by pair command (Done given)) at.known_is
@@ -58,34 +59,100 @@ at-work-more pair knew known before now command at same_jobs same_unit ample tur
 ends : (unit_work : Work) (path : List ℕ) (command : Cmd) → unit_work ≡ work.Replicate path → GoesOn unit_work command answer.Failed → ⊥
 ends unit_work path command is goes = subst (λ (w : Work). GoesOn w command answer.Failed) is goes
 
-failed-undone : told.Failed ≢ told.Done
+-- a command that was not done ends the unit
+pub ended-turn : (pair : Pair) (known : Known) (before now : Sight) (command : Cmd) (given : Told) (ended : Outcome) → AtWork pair known before → Went before now → Turns before.turns now.turns command given → (given ≡ told.Failed → Rose before.faults now.faults) → ((base : Option (List Entry)) → Records base before.told before.turns → RecordsRun base now.told before.turns now.turns command given) → given ≢ told.Done → ended ≡ ended_as (length now.turns) given → HasEnded before now ended
+ended-turn pair known before now command given ended at went turns rose records undone is =
+    ended-undone before now command given ended at.at_work went turns rose records undone (λ failed. ends before.unit.work pair.source command at.work_is) is
+
+pub failed-undone : told.Failed ≢ told.Done
 failed-undone e = cc
 
-garbled-undone : (line : ℕ) → told.Garbled line ≢ told.Done
+pub garbled-undone : (line : ℕ) → told.Garbled line ≢ told.Done
 garbled-undone line e = cc
 
--- a command that failed ends the unit
-pub ended-failed : (path : List ℕ) (before now : Sight) (command : Cmd) (ended : Outcome) → before.unit.work ≡ work.Replicate path → HasTurned before.turns now.turns command told.Failed → ended ≡ ended_as (length now.turns) told.Failed → Rose before.faults now.faults → Follows before now → HasEnded before now ended
-ended-failed path before now command ended is turned ended_is rose follows =
-    subst (λ (o : Outcome). HasEnded before now o) (sym ended_is) (record {
-      result = ended-result before.jobs before.unit before.turns now.turns command told.Failed turned failed-undone (ends before.unit.work path command is);
-      records = follows;
-      rose = λ e. rose;
-    })
+pub short-undone : told.NoMemory ≢ told.Done
+short-undone e = cc
 
--- and one whose listing was garbled
-pub ended-garbled : (path : List ℕ) (before now : Sight) (command : Cmd) (line : ℕ) (ended : Outcome) → before.unit.work ≡ work.Replicate path → HasTurned before.turns now.turns command (told.Garbled line) → ended ≡ ended_as (length now.turns) (told.Garbled line) → Follows before now → HasEnded before now ended
-ended-garbled path before now command line ended is turned ended_is follows =
-    subst (λ (o : Outcome). HasEnded before now o) (sym ended_is) (record {
-      result = ended-result before.jobs before.unit before.turns now.turns command (told.Garbled line) turned (garbled-undone line) (ends before.unit.work path command is);
-      records = follows;
-      rose = λ e. absurd (true≢false (sym e));
-    })
-
--- what went on goes on
-pub went-on : (first before now : Sight) → Went first before → Went before now → Went first now
-went-on first before now one other = record {
-  same_jobs = other.same_jobs ∙ one.same_jobs;
-  same_unit = other.same_unit ∙ one.same_unit;
-  later = omega (arith, one.later, other.later);
+-- what goes on goes on
+pub goes-on-with : (pair : Pair) (first before now : Sight) (knew known : Known) → GoesOnWith pair first before knew → GoesOnWith pair before now known → GoesOnWith pair first now known
+goes-on-with pair first before now knew known one other = record {
+  went = went-on first before now one.went other.went;
+  at_work = other.at_work;
+  follows = λ base records. other.follows base (one.follows base records);
 }
+
+-- and what has ended behind it has ended
+pub ends-with : (pair : Pair) (first before now : Sight) (knew : Known) (ended : Outcome) → GoesOnWith pair first before knew → HasEnded before now ended → HasEnded first now ended
+ends-with pair first before now knew ended one other = ended-on first before now ended one.went one.follows other
+
+-- a stage behind another is a stage from the first on
+pub stage-on : {T : Type 0} (pair : Pair) (first before now : Sight) (knew known : Known) (result : Result T Outcome) → GoesOnWith pair first before knew → Stage pair before now known result → Stage pair first now known result
+stage-on pair first before now knew known (Ok value) one other = goes-on-with pair first before now knew known one other
+stage-on pair first before now knew known (Err ended) one other = ends-with pair first before now knew ended one other
+
+-- the unit has done nothing
+pub stage-none : (pair : Pair) (known : Known) (now : Sight) → AtWork pair known now → GoesOnWith pair now now known
+stage-none pair known now at = record { went = went-nowhere now; at_work = at; follows = λ base records. records }
+
+-- a replication unit that has just begun is at work, and knows nothing
+pub begins-at-work : (pair : Pair) (known : Known) (now : Sight) → HasJustBegun now → IsPairOf now.jobs now.unit pair → known ≡ nothing_known → AtWork pair known now
+begins-at-work pair known now begun of_pair nothing = record {
+  work_is = of_pair.work_is;
+  pair_is = of_pair.pair_is;
+  at_work = begun-at-work now begun;
+  known_is = nothing ∙ sym (ap (known_of pair) begun.no_turns);
+}
+
+positive : (n : ℕ) → (n == 0) ≡ false → 0 < n
+positive zero e = cc
+positive (suc n) e = omega arith
+
+no-fault : false ≡ true → ⊥
+no-fault e = cc
+
+-- a unit that has finished has ended with the number of its transfers
+pub finished_ended : (pair : Pair) (known : Known) (now : Sight) (ended : Outcome) → AtWork pair known now → IsFinished pair known → ended ≡ finished_with (capped (count_by (λ (turn : Turn). is_done_transfer turn.0 turn.1) now.turns)) → HasEnded now now ended
+finished_ended pair known now ended at finished is =
+    subst (λ (o : Outcome). HasEnded now now o) (sym is) (by (steps == 0) refl) where
+      steps : ℕ
+      steps = capped (count_by (λ (turn : Turn). is_done_transfer turn.0 turn.1) now.turns)
+
+      replicated : HasReplicated now.jobs now.unit now.turns steps
+      replicated = record {
+        pair = pair;
+        replicating = record { path = pair.source; work_is = at.work_is; pair_is = at.pair_is; goes_on = at.at_work.goes_on };
+        finished = subst (IsFinished pair) at.known_is finished;
+        steps_are = refl;
+      }
+
+      by : (b : Bool) → (steps == 0) ≡ b → HasEnded now now (if b then outcome.UpToDate else outcome.Replicated steps)
+      by true none = record {
+        went = went-nowhere now;
+        result = subst (λ (n : ℕ). HasReplicated now.jobs now.unit now.turns n) ((Decides-eqb steps 0).0 none) replicated;
+        records = λ base records. records;
+        rose = λ fault. absurd (no-fault fault);
+      }
+      by false some = record {
+        went = went-nowhere now;
+        result = (replicated, positive steps some);
+        records = λ base records. records;
+        rose = λ fault. absurd (no-fault fault);
+      }
+
+-- a unit that has listed all and done nothing else has ended in a conflict where its pair is not straight
+pub conflict-ended : (pair : Pair) (known : Known) (before now : Sight) → GoesOnWith pair before now known → OnlyLists now.turns → has_listed pair known ≡ true → is_straight pair known ≡ false → HasEnded before now (outcome.Conflict NOT_STRAIGHT)
+conflict-ended pair known before now goes lists listed crooked =
+    let known_is = goes.at_work.known_is in
+    ends-with pair before now now known (outcome.Conflict NOT_STRAIGHT) goes (record {
+      went = went-nowhere now;
+      result = record {
+        pair = pair;
+        replicating = record { path = pair.source; work_is = goes.at_work.work_is; pair_is = goes.at_work.pair_is; goes_on = goes.at_work.at_work.goes_on };
+        lists_alone = lists;
+        listed = ap (has_listed pair) (sym known_is) ∙ listed;
+        not_straight = ap (is_straight pair) (sym known_is) ∙ crooked;
+        number_is = refl;
+      };
+      records = λ base records. records;
+      rose = λ fault. absurd (no-fault fault);
+    })

@@ -1,73 +1,34 @@
-use Rattle.std.specs.Prelude.{◌≡◌, ◌≤◌, ℕ, Bool, true, false, List, [], ◌∷◌, ◌++◌, Option, Some, None, All, Result, Ok, Err}
+use Rattle.std.specs.Prelude.{◌≡◌, Bool, true, false, List, [], ◌∷◌, ◌++◌, ℕ, Some, None, Result, Ok, Err}
 use Rattle.std.specs.Option.{option_map_or}
-use Rattle.zr_base.specs.Count.{Rose}
 use Rattle.zr_names.specs.declared.outcome.Outcome.{Outcome}
-use Rattle.zr_names.specs.declared.unit.Unit.{Unit}
 use Rattle.zr_names.specs.declared.unit.Work.TheVariants as work
 use Rattle.zr_command.specs.declared.command.Answer.TheVariants.{Done}
 use Rattle.zr_command.specs.declared.command.Cmd.{Cmd}
 use Rattle.zr_command.specs.declared.command.Cmd.TheVariants as cmd
-use Rattle.zr_command.specs.declared.command.Entry.{Entry}
 use Rattle.zr_command.specs.declared.command.Reply.{Reply}
 use Rattle.zr_command.specs.declared.command.Transfer.{Transfer}
 use Rattle.zr_command.specs.declared.version.VersionName.{VersionName}
 use Rattle.zr_command.specs.declared.version.VersionName.TheVariants.{Mark}
 use Rattle.zr_command.specs.declared.version.VersionRow.{VersionRow}
 use Rattle.zr_world.specs.Answering.{Fits}
-use Rattle.zr_jobs.specs.declared.job.JobSet.{JobSet}
-use Rattle.zr_known.specs.declared.known.Known.{Known}
 use Rattle.zr_jobs.specs.declared.pair.Pair.{Pair}
 use Rattle.zr_jobs.specs.Jobs.{job_at, pair_of}
+use Rattle.zr_known.specs.declared.known.Known.{Known}
 use Rattle.zr_known.specs.declared.known.Receiving.TheVariants.{Nothing}
 use Rattle.zr_known.specs.Known.{arrival, known_of, presence_after, source_row, told_by}
-use Rattle.zr_permit.specs.Result.{is_child_fault, ResultOf}
-use Rattle.zr_permit.specs.Seen.{Seen}
-use Rattle.zr_permit.specs.Transcript.{GoesOn, Transcript}
-use Rattle.zr_permit.specs.Turned.{Records, RecordsUnit}
+use Rattle.zr_permit.specs.Sight.{Follows, HasEnded, IsAtWork, Sight, Went}
+use Rattle.zr_permit.specs.Transcript.{Transcript}
 
--- what a contract sees of a unit at work: its jobs, the unit, its turns, whether memory was refused to it, and its
--- runner's record and count of faults
-pub record Sight : Type 0 where
-  pub jobs : JobSet
-  pub unit : Unit
-  pub turns : Transcript
-  pub short : Bool
-  pub told : Option (List Entry)
-  pub faults : ℕ
-
-abbrev pub sight : Seen → Bool → Option (List Entry) → ℕ → Sight
-sight log short told faults =
-    record { jobs = log.jobs; unit = log.unit; turns = log.turns; short = short; told = told; faults = faults }
-
--- a replication unit at work on its pair: all its turns were done, and this is what they told
+-- a replication unit at work on its pair: this is what its turns told
 pub record AtWork (pair : Pair) (known : Known) (now : Sight) : Type 0 where
   pub work_is : now.unit.work ≡ work.Replicate pair.source
   pub pair_is : pair_of (job_at now.jobs now.unit.job) pair.source ≡ Some pair
-  pub ample : now.short ≡ false
-  pub goes_on : All (λ turn. GoesOn now.unit.work turn.0 turn.1) now.turns
+  pub at_work : IsAtWork now
   pub known_is : known ≡ known_of pair now.turns
-
--- it is still the same unit of the same jobs, and no fault was taken back
-pub record Went (before now : Sight) : Type 0 where
-  pub same_jobs : now.jobs ≡ before.jobs
-  pub same_unit : now.unit ≡ before.unit
-  pub later : before.faults ≤ now.faults
-
--- the runner's record goes on with the turns
-abbrev pub Follows : Sight → Sight → Type 0
-Follows before now =
-    (base : Option (List Entry)) → Records base before.told before.turns → Records base now.told now.turns
-
--- the unit has ended with this outcome
-pub record HasEnded (before now : Sight) (ended : Outcome) : Type 0 where
-  pub result : ResultOf before.jobs before.unit now.turns ended
-  pub records :
-      (base : Option (List Entry)) → Records base before.told before.turns →
-      RecordsUnit base now.told before.jobs before.unit now.turns ended
-  pub rose : is_child_fault ended ≡ true → Rose before.faults now.faults
 
 -- the unit is at work again
 pub record GoesOnWith (pair : Pair) (before now : Sight) (known : Known) : Type 0 where
+  pub went : Went before now
   pub at_work : AtWork pair known now
   pub follows : Follows before now
 

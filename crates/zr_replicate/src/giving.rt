@@ -1,7 +1,8 @@
 ghost use Rattle.std.specs.Prelude.{◌≡◌, ◌++◌, ◌∷◌, [], OnErr, OnOk, true};
 ghost use Rattle.zr_known.specs.Known.{told_by};
 ghost use Rattle.zr_known.specs.Replication.{MayGive};
-ghost use Rattle.zr_replicate.specs.Working.{AtWork, HasTold, is_change, Learnt, sight, Stage, Went};
+ghost use Rattle.zr_permit.specs.Sight.{sight};
+ghost use Rattle.zr_replicate.specs.Working.{AtWork, HasTold, is_change, Learnt, Stage};
 ghost use Rattle.zr_command.specs.declared.command.Answer.TheVariants.{Done};
 ghost use Rattle.zr_command.specs.declared.command.Reply.TheVariants as reply;
 
@@ -20,10 +21,10 @@ fn learn<Z: Zfs>(
     pair: &Pair,
     known: &mut Known,
 ) -> Result<(), NoMemory>
-    ensures ok { OnOk result (Learnt pair.now g.now.log.turns known.old known.new) }
+    ensures ok { OnOk result (Learnt pair.now (sight Z.Zfs g.now).turns known.old known.new) }
     ensures err { OnErr result (known.new ≡ known.old) }
 {
-    match g.log.turns().last() {
+    match g.transcript().last() {
         Some((cmd, answer)) => known.tell(alloc, pair, cmd, answer),
         None => Ok(()),
     }
@@ -37,16 +38,10 @@ pub(crate) fn give<Z: Zfs>(
     known: &mut Known,
     cmd: Cmd,
 ) -> Result<(), Outcome>
-    requires at_work { AtWork pair.now known.old
-        (sight g.old.log g.old.short (Z.told g.old.z.now) (Z.faults g.old.z.now)) }
+    requires at_work { AtWork pair.now known.old (sight Z.Zfs g.old) }
     requires may { MayGive pair.now known.old cmd }
-    ensures went { Went (sight g.old.log g.old.short (Z.told g.old.z.now) (Z.faults g.old.z.now))
-        (sight g.new.log g.new.short (Z.told g.new.z.now) (Z.faults g.new.z.now)) }
-    ensures stage { Stage pair.now (sight g.old.log g.old.short (Z.told g.old.z.now) (Z.faults g.old.z.now))
-        (sight g.new.log g.new.short (Z.told g.new.z.now) (Z.faults g.new.z.now)) known.new result }
-    ensures told { OnOk result (HasTold pair.now cmd
-        (sight g.old.log g.old.short (Z.told g.old.z.now) (Z.faults g.old.z.now))
-        (sight g.new.log g.new.short (Z.told g.new.z.now) (Z.faults g.new.z.now)) known.old known.new) }
+    ensures stage { Stage pair.now (sight Z.Zfs g.old) (sight Z.Zfs g.new) known.new result }
+    ensures told { OnOk result (HasTold pair.now cmd (sight Z.Zfs g.old) (sight Z.Zfs g.new) known.old known.new) }
     ensures runner { g.new.z.ghost_name ≡ g.old.z.ghost_name }
 {
     match g.run(cmd) {
@@ -56,7 +51,7 @@ pub(crate) fn give<Z: Zfs>(
         },
         Told::Failed => Err(g.ended(Told::Failed)),
         Told::Garbled(line) => Err(g.ended(Told::Garbled(line))),
-        Told::NoMemory => Err(Outcome::NoMemory),
+        Told::NoMemory => Err(g.ended(Told::NoMemory)),
     }
 }
 
@@ -68,14 +63,10 @@ pub(crate) fn change<Z: Zfs>(
     known: &mut Known,
     cmd: Cmd,
 ) -> Result<(), Outcome>
-    requires at_work { AtWork pair.now known.old
-        (sight g.old.log g.old.short (Z.told g.old.z.now) (Z.faults g.old.z.now)) }
+    requires at_work { AtWork pair.now known.old (sight Z.Zfs g.old) }
     requires may { MayGive pair.now known.old cmd }
     requires changes { is_change cmd ≡ true }
-    ensures went { Went (sight g.old.log g.old.short (Z.told g.old.z.now) (Z.faults g.old.z.now))
-        (sight g.new.log g.new.short (Z.told g.new.z.now) (Z.faults g.new.z.now)) }
-    ensures stage { Stage pair.now (sight g.old.log g.old.short (Z.told g.old.z.now) (Z.faults g.old.z.now))
-        (sight g.new.log g.new.short (Z.told g.new.z.now) (Z.faults g.new.z.now)) known.new result }
+    ensures stage { Stage pair.now (sight Z.Zfs g.old) (sight Z.Zfs g.new) known.new result }
     ensures known { OnOk result (known.new ≡ told_by pair.now cmd (Done reply.Nothing) known.old) }
     ensures runner { g.new.z.ghost_name ≡ g.old.z.ghost_name }
 {

@@ -1,21 +1,19 @@
 //! The unit of work that replicates a dataset to its target.
 #![tactic(auto)]
 
-ghost use Rattle.std.specs.Prelude.{◌≡◌, ◌≢◌, ◌≤◌, [], IfOk, List, OnOk, Option, Some, false, true, count_by};
-ghost use Rattle.zr_base.specs.Count.{Rose};
+ghost use Rattle.std.specs.Prelude.{◌≡◌, ◌≢◌, [], IfOk, OnOk, Some, true, count_by};
 ghost use Rattle.zr_jobs.specs.Jobs.{IsOfFile};
 ghost use Rattle.zr_known.specs.Known.{nothing_known};
 ghost use Rattle.zr_known.specs.Replication.{plan_known};
-ghost use Rattle.zr_permit.specs.Result.{capped, is_child_fault, is_done_transfer, is_out_of_memory, ResultOf};
+ghost use Rattle.zr_permit.specs.Result.{capped, is_done_transfer};
+ghost use Rattle.zr_permit.specs.Sight.{HasEnded, HasJustBegun, sight};
 ghost use Rattle.zr_known.specs.Straight.{has_listed, IsFinished, is_straight};
 ghost use Rattle.zr_permit.specs.Transcript.{Turn};
-ghost use Rattle.zr_permit.specs.Turned.{Records, RecordsUnit};
 ghost use Rattle.zr_plan.specs.declared.target.Planned.TheVariants.{UpToDate};
 ghost use Rattle.zr_replicate.specs.Listing.{HasListedAll, OnlyLists};
 ghost use Rattle.zr_replicate.specs.Replicating.{either_of, finished_with, IsPairOf, IsReplicate};
 ghost use Rattle.zr_replicate.specs.Stepping.{IsAtRest, SameListings};
-ghost use Rattle.zr_replicate.specs.Working.{AtWork, HasEnded, sight, Stage, Went};
-ghost use Rattle.zr_command.specs.declared.command.Entry.{Entry};
+ghost use Rattle.zr_replicate.specs.Working.{AtWork, Stage};
 
 use listing::list_everything;
 use std::alloc::Global;
@@ -36,9 +34,9 @@ mod stepping;
 
 /// What the unit replicates.
 fn own_pair<Z: Zfs>(alloc: Global, g: &Guarded<'_, Z>) -> Result<Pair, NoMemory>
-    requires of_file { IsOfFile g.now.log.jobs g.now.log.unit }
-    requires kind { IsReplicate g.now.log.unit.work }
-    ensures { IfOk result (IsPairOf g.now.log.jobs g.now.log.unit) }
+    requires of_file { IsOfFile (sight Z.Zfs g.now).jobs (sight Z.Zfs g.now).unit }
+    requires kind { IsReplicate (sight Z.Zfs g.now).unit.work }
+    ensures { IfOk result (IsPairOf (sight Z.Zfs g.now).jobs (sight Z.Zfs g.now).unit) }
 {
     match &g.unit().work {
         Work::Replicate(path) => g.jobs().unit_pair(alloc, g.unit(), path),
@@ -86,6 +84,16 @@ fn either_of(ended: Result<Outcome, Outcome>) -> Outcome
     }
 }
 
+/// How a unit ends that has brought its target up to date.
+#[tactic(auto, using(crate::proofs::Turning::finished_ended))]
+fn outcome_of<Z: Zfs>(g: &Guarded<'_, Z>, _pair: &Pair, _known: &Known) -> Outcome
+    requires at_work { AtWork _pair.now _known.now (sight Z.Zfs g.now) }
+    requires finished { IsFinished _pair.now _known.now }
+    ensures { HasEnded (sight Z.Zfs g.now) (sight Z.Zfs g.now) result }
+{
+    finished_with(done_transfers(g.transcript()))
+}
+
 /// Replicates a pair. Nothing is changed where it is not straight.
 fn replicate_pair<Z: Zfs>(
     alloc: Global,
@@ -93,14 +101,10 @@ fn replicate_pair<Z: Zfs>(
     pair: &Pair,
     known: &mut Known,
 ) -> Result<Outcome, Outcome>
-    requires at_work { AtWork pair.now known.old
-        (sight g.old.log g.old.short (Z.told g.old.z.now) (Z.faults g.old.z.now)) }
-    requires fresh { g.old.log.turns ≡ [] }
+    requires at_work { AtWork pair.now known.old (sight Z.Zfs g.old) }
+    requires fresh { (sight Z.Zfs g.old).turns ≡ [] }
     requires nothing { known.old ≡ nothing_known }
-    ensures went { Went (sight g.old.log g.old.short (Z.told g.old.z.now) (Z.faults g.old.z.now))
-        (sight g.new.log g.new.short (Z.told g.new.z.now) (Z.faults g.new.z.now)) }
-    ensures ended { HasEnded (sight g.old.log g.old.short (Z.told g.old.z.now) (Z.faults g.old.z.now))
-        (sight g.new.log g.new.short (Z.told g.new.z.now) (Z.faults g.new.z.now)) (either_of result) }
+    ensures ended { HasEnded (sight Z.Zfs g.old) (sight Z.Zfs g.new) (either_of result) }
     ensures runner { g.new.z.ghost_name ≡ g.old.z.ghost_name }
 {
     list_everything(alloc, g, pair, known)?;
@@ -108,25 +112,17 @@ fn replicate_pair<Z: Zfs>(
         return Ok(Outcome::Conflict(NOT_STRAIGHT));
     }
     bring_up_to_date(alloc, g, pair, known)?;
-    Ok(finished_with(done_transfers(g.log.turns())))
+    Ok(outcome_of(g, pair, known))
 }
 
 /// Replicates the unit's dataset to its target: lists both, holds each snapshot that is to be sent, sends it in full or
 /// from the cursor of the target's newest snapshot, and settles it, until the target has what the source has (zrepl's
 /// documentation, "Replication"). What is not straight is left as it is, with conflict 20.
 pub fn replicate<Z: Zfs>(alloc: Global, g: &mut Guarded<'_, Z>) -> Outcome
-    requires fresh { g.old.log.turns ≡ [] }
-    requires ample { g.old.short ≡ false }
-    requires of_file { IsOfFile g.old.log.jobs g.old.log.unit }
-    requires kind { IsReplicate g.old.log.unit.work }
-    ensures jobs { g.new.log.jobs ≡ g.old.log.jobs }
-    ensures unit { g.new.log.unit ≡ g.old.log.unit }
-    ensures result { ResultOf g.old.log.jobs g.old.log.unit g.new.log.turns result }
-    ensures later { Z.faults g.old.z.now ≤ Z.faults g.new.z.now }
-    ensures fault_rose { is_child_fault result ≡ true →
-        Rose (Z.faults g.old.z.now) (Z.faults g.new.z.now) }
-    ensures records { (base : Option (List Entry)) → Records base (Z.told g.old.z.now) [] →
-        RecordsUnit base (Z.told g.new.z.now) g.old.log.jobs g.old.log.unit g.new.log.turns result }
+    requires begun { HasJustBegun (sight Z.Zfs g.old) }
+    requires of_file { IsOfFile (sight Z.Zfs g.old).jobs (sight Z.Zfs g.old).unit }
+    requires kind { IsReplicate (sight Z.Zfs g.old).unit.work }
+    ensures ended { HasEnded (sight Z.Zfs g.old) (sight Z.Zfs g.new) result }
     ensures runner { g.new.z.ghost_name ≡ g.old.z.ghost_name }
 {
     let Ok(pair) = own_pair(alloc, g) else {

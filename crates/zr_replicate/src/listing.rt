@@ -6,7 +6,8 @@ ghost use Rattle.std.specs.List.{list_all};
 ghost use Rattle.zr_known.specs.Known.{is_among, nothing_known};
 ghost use Rattle.zr_known.specs.Straight.{has_known_holds};
 ghost use Rattle.zr_replicate.specs.Listing.{asked_at, HasAskedAll, HasListedAll, HasListedSets, HasListedSource, HasListedTarget, IsShown, KnowsMoreHolds, listing_at, OnlyLists, path_at, ShowsAt};
-ghost use Rattle.zr_replicate.specs.Working.{AtWork, sight, Stage, Went};
+ghost use Rattle.zr_permit.specs.Sight.{sight};
+ghost use Rattle.zr_replicate.specs.Working.{AtWork, Stage};
 
 use crate::commands;
 use crate::giving::give;
@@ -57,16 +58,12 @@ fn list_holds<Z: Zfs>(
     side: Side,
     name: &SnapName,
 ) -> Result<(), Outcome>
-    requires at_work { AtWork pair.now known.old
-        (sight g.old.log g.old.short (Z.told g.old.z.now) (Z.faults g.old.z.now)) }
-    requires lists { OnlyLists g.old.log.turns }
+    requires at_work { AtWork pair.now known.old (sight Z.Zfs g.old) }
+    requires lists { OnlyLists (sight Z.Zfs g.old).turns }
     requires shown { ShowsAt side known.old name.now }
     requires apart { pair.now.target ≢ pair.now.source }
-    ensures went { Went (sight g.old.log g.old.short (Z.told g.old.z.now) (Z.faults g.old.z.now))
-        (sight g.new.log g.new.short (Z.told g.new.z.now) (Z.faults g.new.z.now)) }
-    ensures stage { Stage pair.now (sight g.old.log g.old.short (Z.told g.old.z.now) (Z.faults g.old.z.now))
-        (sight g.new.log g.new.short (Z.told g.new.z.now) (Z.faults g.new.z.now)) known.new result }
-    ensures lists { OnOk result (OnlyLists g.new.log.turns) }
+    ensures stage { Stage pair.now (sight Z.Zfs g.old) (sight Z.Zfs g.new) known.new result }
+    ensures lists { OnOk result (OnlyLists (sight Z.Zfs g.new).turns) }
     ensures more { OnOk result (KnowsMoreHolds side known.old known.new) }
     ensures asked { OnOk result (is_among (asked_at side known.new) name.now ≡ true) }
     ensures runner { g.new.z.ghost_name ≡ g.old.z.ghost_name }
@@ -86,16 +83,12 @@ fn list_holds_of<Z: Zfs>(
     side: Side,
     row: &VersionRow,
 ) -> Result<(), Outcome>
-    requires at_work { AtWork pair.now known.old
-        (sight g.old.log g.old.short (Z.told g.old.z.now) (Z.faults g.old.z.now)) }
-    requires lists { OnlyLists g.old.log.turns }
+    requires at_work { AtWork pair.now known.old (sight Z.Zfs g.old) }
+    requires lists { OnlyLists (sight Z.Zfs g.old).turns }
     requires shown { IsShown side known.old row.now }
     requires apart { pair.now.target ≢ pair.now.source }
-    ensures went { Went (sight g.old.log g.old.short (Z.told g.old.z.now) (Z.faults g.old.z.now))
-        (sight g.new.log g.new.short (Z.told g.new.z.now) (Z.faults g.new.z.now)) }
-    ensures stage { Stage pair.now (sight g.old.log g.old.short (Z.told g.old.z.now) (Z.faults g.old.z.now))
-        (sight g.new.log g.new.short (Z.told g.new.z.now) (Z.faults g.new.z.now)) known.new result }
-    ensures lists { OnOk result (OnlyLists g.new.log.turns) }
+    ensures stage { Stage pair.now (sight Z.Zfs g.old) (sight Z.Zfs g.new) known.new result }
+    ensures lists { OnOk result (OnlyLists (sight Z.Zfs g.new).turns) }
     ensures more { OnOk result (KnowsMoreHolds side known.old known.new) }
     ensures asked { OnOk result (has_known_holds (asked_at side known.new) row.now ≡ true) }
     ensures runner { g.new.z.ghost_name ≡ g.old.z.ghost_name }
@@ -115,16 +108,12 @@ fn list_holds_of_all<Z: Zfs>(
     side: Side,
     rows: &[VersionRow],
 ) -> Result<(), Outcome>
-    requires at_work { AtWork pair.now known.old
-        (sight g.old.log g.old.short (Z.told g.old.z.now) (Z.faults g.old.z.now)) }
-    requires lists { OnlyLists g.old.log.turns }
+    requires at_work { AtWork pair.now known.old (sight Z.Zfs g.old) }
+    requires lists { OnlyLists (sight Z.Zfs g.old).turns }
     requires shown { option_map_or (λ rows. rows) (listing_at side known.old) [] ≡ rows.now }
     requires apart { pair.now.target ≢ pair.now.source }
-    ensures went { Went (sight g.old.log g.old.short (Z.told g.old.z.now) (Z.faults g.old.z.now))
-        (sight g.new.log g.new.short (Z.told g.new.z.now) (Z.faults g.new.z.now)) }
-    ensures stage { Stage pair.now (sight g.old.log g.old.short (Z.told g.old.z.now) (Z.faults g.old.z.now))
-        (sight g.new.log g.new.short (Z.told g.new.z.now) (Z.faults g.new.z.now)) known.new result }
-    ensures lists { OnOk result (OnlyLists g.new.log.turns) }
+    ensures stage { Stage pair.now (sight Z.Zfs g.old) (sight Z.Zfs g.new) known.new result }
+    ensures lists { OnOk result (OnlyLists (sight Z.Zfs g.new).turns) }
     ensures more { OnOk result (KnowsMoreHolds side known.old known.new) }
     ensures asked { OnOk result (list_all (has_known_holds (asked_at side known.new)) rows.now ≡ true) }
     ensures runner { g.new.z.ghost_name ≡ g.old.z.ghost_name }
@@ -143,15 +132,11 @@ fn list_side_holds<Z: Zfs>(
     known: &mut Known,
     side: Side,
 ) -> Result<(), Outcome>
-    requires at_work { AtWork pair.now known.old
-        (sight g.old.log g.old.short (Z.told g.old.z.now) (Z.faults g.old.z.now)) }
-    requires lists { OnlyLists g.old.log.turns }
+    requires at_work { AtWork pair.now known.old (sight Z.Zfs g.old) }
+    requires lists { OnlyLists (sight Z.Zfs g.old).turns }
     requires apart { pair.now.target ≢ pair.now.source }
-    ensures went { Went (sight g.old.log g.old.short (Z.told g.old.z.now) (Z.faults g.old.z.now))
-        (sight g.new.log g.new.short (Z.told g.new.z.now) (Z.faults g.new.z.now)) }
-    ensures stage { Stage pair.now (sight g.old.log g.old.short (Z.told g.old.z.now) (Z.faults g.old.z.now))
-        (sight g.new.log g.new.short (Z.told g.new.z.now) (Z.faults g.new.z.now)) known.new result }
-    ensures lists { OnOk result (OnlyLists g.new.log.turns) }
+    ensures stage { Stage pair.now (sight Z.Zfs g.old) (sight Z.Zfs g.new) known.new result }
+    ensures lists { OnOk result (OnlyLists (sight Z.Zfs g.new).turns) }
     ensures more { OnOk result (KnowsMoreHolds side known.old known.new) }
     ensures asked { OnOk result (HasAskedAll side known.new) }
     ensures runner { g.new.z.ghost_name ≡ g.old.z.ghost_name }
@@ -169,15 +154,11 @@ fn list_sets<Z: Zfs>(
     pair: &Pair,
     known: &mut Known,
 ) -> Result<(), Outcome>
-    requires at_work { AtWork pair.now known.old
-        (sight g.old.log g.old.short (Z.told g.old.z.now) (Z.faults g.old.z.now)) }
-    requires lists { OnlyLists g.old.log.turns }
+    requires at_work { AtWork pair.now known.old (sight Z.Zfs g.old) }
+    requires lists { OnlyLists (sight Z.Zfs g.old).turns }
     requires fresh { known.old ≡ nothing_known }
-    ensures went { Went (sight g.old.log g.old.short (Z.told g.old.z.now) (Z.faults g.old.z.now))
-        (sight g.new.log g.new.short (Z.told g.new.z.now) (Z.faults g.new.z.now)) }
-    ensures stage { Stage pair.now (sight g.old.log g.old.short (Z.told g.old.z.now) (Z.faults g.old.z.now))
-        (sight g.new.log g.new.short (Z.told g.new.z.now) (Z.faults g.new.z.now)) known.new result }
-    ensures lists { OnOk result (OnlyLists g.new.log.turns) }
+    ensures stage { Stage pair.now (sight Z.Zfs g.old) (sight Z.Zfs g.new) known.new result }
+    ensures lists { OnOk result (OnlyLists (sight Z.Zfs g.new).turns) }
     ensures sets { OnOk result (HasListedSets pair.now known.new) }
     ensures runner { g.new.z.ghost_name ≡ g.old.z.ghost_name }
 {
@@ -191,15 +172,11 @@ fn list_source<Z: Zfs>(
     pair: &Pair,
     known: &mut Known,
 ) -> Result<(), Outcome>
-    requires at_work { AtWork pair.now known.old
-        (sight g.old.log g.old.short (Z.told g.old.z.now) (Z.faults g.old.z.now)) }
-    requires lists { OnlyLists g.old.log.turns }
+    requires at_work { AtWork pair.now known.old (sight Z.Zfs g.old) }
+    requires lists { OnlyLists (sight Z.Zfs g.old).turns }
     requires sets { HasListedSets pair.now known.old }
-    ensures went { Went (sight g.old.log g.old.short (Z.told g.old.z.now) (Z.faults g.old.z.now))
-        (sight g.new.log g.new.short (Z.told g.new.z.now) (Z.faults g.new.z.now)) }
-    ensures stage { Stage pair.now (sight g.old.log g.old.short (Z.told g.old.z.now) (Z.faults g.old.z.now))
-        (sight g.new.log g.new.short (Z.told g.new.z.now) (Z.faults g.new.z.now)) known.new result }
-    ensures lists { OnOk result (OnlyLists g.new.log.turns) }
+    ensures stage { Stage pair.now (sight Z.Zfs g.old) (sight Z.Zfs g.new) known.new result }
+    ensures lists { OnOk result (OnlyLists (sight Z.Zfs g.new).turns) }
     ensures sets { OnOk result (HasListedSets pair.now known.new) }
     ensures source { OnOk result (HasListedSource known.new) }
     ensures runner { g.new.z.ghost_name ≡ g.old.z.ghost_name }
@@ -217,17 +194,13 @@ fn list_target<Z: Zfs>(
     pair: &Pair,
     known: &mut Known,
 ) -> Result<(), Outcome>
-    requires at_work { AtWork pair.now known.old
-        (sight g.old.log g.old.short (Z.told g.old.z.now) (Z.faults g.old.z.now)) }
-    requires lists { OnlyLists g.old.log.turns }
+    requires at_work { AtWork pair.now known.old (sight Z.Zfs g.old) }
+    requires lists { OnlyLists (sight Z.Zfs g.old).turns }
     requires sets { HasListedSets pair.now known.old }
     requires source { HasListedSource known.old }
     requires apart { pair.now.target ≢ pair.now.source }
-    ensures went { Went (sight g.old.log g.old.short (Z.told g.old.z.now) (Z.faults g.old.z.now))
-        (sight g.new.log g.new.short (Z.told g.new.z.now) (Z.faults g.new.z.now)) }
-    ensures stage { Stage pair.now (sight g.old.log g.old.short (Z.told g.old.z.now) (Z.faults g.old.z.now))
-        (sight g.new.log g.new.short (Z.told g.new.z.now) (Z.faults g.new.z.now)) known.new result }
-    ensures lists { OnOk result (OnlyLists g.new.log.turns) }
+    ensures stage { Stage pair.now (sight Z.Zfs g.old) (sight Z.Zfs g.new) known.new result }
+    ensures lists { OnOk result (OnlyLists (sight Z.Zfs g.new).turns) }
     ensures sets { OnOk result (HasListedSets pair.now known.new) }
     ensures source { OnOk result (HasListedSource known.new) }
     ensures target { OnOk result (HasListedTarget pair.now known.new) }
@@ -250,16 +223,12 @@ pub(crate) fn list_everything<Z: Zfs>(
     pair: &Pair,
     known: &mut Known,
 ) -> Result<(), Outcome>
-    requires at_work { AtWork pair.now known.old
-        (sight g.old.log g.old.short (Z.told g.old.z.now) (Z.faults g.old.z.now)) }
-    requires lists { OnlyLists g.old.log.turns }
+    requires at_work { AtWork pair.now known.old (sight Z.Zfs g.old) }
+    requires lists { OnlyLists (sight Z.Zfs g.old).turns }
     requires fresh { known.old ≡ nothing_known }
     requires apart { pair.now.target ≢ pair.now.source }
-    ensures went { Went (sight g.old.log g.old.short (Z.told g.old.z.now) (Z.faults g.old.z.now))
-        (sight g.new.log g.new.short (Z.told g.new.z.now) (Z.faults g.new.z.now)) }
-    ensures stage { Stage pair.now (sight g.old.log g.old.short (Z.told g.old.z.now) (Z.faults g.old.z.now))
-        (sight g.new.log g.new.short (Z.told g.new.z.now) (Z.faults g.new.z.now)) known.new result }
-    ensures lists { OnOk result (OnlyLists g.new.log.turns) }
+    ensures stage { Stage pair.now (sight Z.Zfs g.old) (sight Z.Zfs g.new) known.new result }
+    ensures lists { OnOk result (OnlyLists (sight Z.Zfs g.new).turns) }
     ensures listed { OnOk result (HasListedAll pair.now known.new) }
     ensures runner { g.new.z.ghost_name ≡ g.old.z.ghost_name }
 {

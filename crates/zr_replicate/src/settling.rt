@@ -8,7 +8,8 @@ ghost use Rattle.zr_names.specs.declared.marks.MarkKind.TheVariants.{Cursor};
 ghost use Rattle.zr_command.specs.Kinds.{is_cursor_of, kind_in};
 ghost use Rattle.zr_known.specs.Known.{is_among};
 ghost use Rattle.zr_replicate.specs.Settling.{first_other, HasCursor, is_any_cursor, is_bookmark, IsAlone, IsOtherMark, IsOtherName, IsSafe, MaySettle, OnlyMarks};
-ghost use Rattle.zr_replicate.specs.Working.{AtWork, sight, Stage, Went};
+ghost use Rattle.zr_permit.specs.Sight.{sight};
+ghost use Rattle.zr_replicate.specs.Working.{AtWork, Stage};
 ghost use Rattle.zr_command.specs.Names.{same_text};
 
 use crate::stages::{destroy_mark, hold_last, make_cursor, release_last, release_step};
@@ -44,13 +45,9 @@ fn make_missing_cursor<Z: Zfs>(
     newest: &Newest,
     version: &VersionName,
 ) -> Result<(), Outcome>
-    requires at_work { AtWork pair.now known.old
-        (sight g.old.log g.old.short (Z.told g.old.z.now) (Z.faults g.old.z.now)) }
+    requires at_work { AtWork pair.now known.old (sight Z.Zfs g.old) }
     requires may { MaySettle pair.now known.old newest.now version.now }
-    ensures went { Went (sight g.old.log g.old.short (Z.told g.old.z.now) (Z.faults g.old.z.now))
-        (sight g.new.log g.new.short (Z.told g.new.z.now) (Z.faults g.new.z.now)) }
-    ensures stage { Stage pair.now (sight g.old.log g.old.short (Z.told g.old.z.now) (Z.faults g.old.z.now))
-        (sight g.new.log g.new.short (Z.told g.new.z.now) (Z.faults g.new.z.now)) known.new result }
+    ensures stage { Stage pair.now (sight Z.Zfs g.old) (sight Z.Zfs g.new) known.new result }
     ensures cursor { OnOk result (HasCursor pair.now known.new newest.now) }
     ensures only { OnOk result (known.new ≡ record known.old { marks = known.new.marks }) }
     ensures runner { g.new.z.ghost_name ≡ g.old.z.ghost_name }
@@ -70,13 +67,9 @@ fn hold_missing_last<Z: Zfs>(
     known: &mut Known,
     newest: &Newest,
 ) -> Result<(), Outcome>
-    requires at_work { AtWork pair.now known.old
-        (sight g.old.log g.old.short (Z.told g.old.z.now) (Z.faults g.old.z.now)) }
+    requires at_work { AtWork pair.now known.old (sight Z.Zfs g.old) }
     requires may { HasCursor pair.now known.old newest.now }
-    ensures went { Went (sight g.old.log g.old.short (Z.told g.old.z.now) (Z.faults g.old.z.now))
-        (sight g.new.log g.new.short (Z.told g.new.z.now) (Z.faults g.new.z.now)) }
-    ensures stage { Stage pair.now (sight g.old.log g.old.short (Z.told g.old.z.now) (Z.faults g.old.z.now))
-        (sight g.new.log g.new.short (Z.told g.new.z.now) (Z.faults g.new.z.now)) known.new result }
+    ensures stage { Stage pair.now (sight Z.Zfs g.old) (sight Z.Zfs g.new) known.new result }
     ensures safe { OnOk result (IsSafe pair.now known.new newest.now) }
     ensures only { OnOk result (known.new ≡ record known.old { last_held = known.new.last_held }) }
     ensures runner { g.new.z.ghost_name ≡ g.old.z.ghost_name }
@@ -115,13 +108,9 @@ fn release_other_last<Z: Zfs>(
     known: &mut Known,
     newest: &Newest,
 ) -> Result<(), Outcome>
-    requires at_work { AtWork pair.now known.old
-        (sight g.old.log g.old.short (Z.told g.old.z.now) (Z.faults g.old.z.now)) }
+    requires at_work { AtWork pair.now known.old (sight Z.Zfs g.old) }
     requires safe { IsSafe pair.now known.old newest.now }
-    ensures went { Went (sight g.old.log g.old.short (Z.told g.old.z.now) (Z.faults g.old.z.now))
-        (sight g.new.log g.new.short (Z.told g.new.z.now) (Z.faults g.new.z.now)) }
-    ensures stage { Stage pair.now (sight g.old.log g.old.short (Z.told g.old.z.now) (Z.faults g.old.z.now))
-        (sight g.new.log g.new.short (Z.told g.new.z.now) (Z.faults g.new.z.now)) known.new result }
+    ensures stage { Stage pair.now (sight Z.Zfs g.old) (sight Z.Zfs g.new) known.new result }
     ensures safe { OnOk result (IsSafe pair.now known.new newest.now) }
     ensures alone { OnOk result (list_all (λ other. same_text other newest.now.name) known.new.last_held ≡ true) }
     ensures only { OnOk result (known.new ≡ record known.old { last_held = known.new.last_held }) }
@@ -192,13 +181,9 @@ fn destroy_other_marks<Z: Zfs>(
     known: &mut Known,
     newest: &Newest,
 ) -> Result<(), Outcome>
-    requires at_work { AtWork pair.now known.old
-        (sight g.old.log g.old.short (Z.told g.old.z.now) (Z.faults g.old.z.now)) }
+    requires at_work { AtWork pair.now known.old (sight Z.Zfs g.old) }
     requires safe { IsSafe pair.now known.old newest.now }
-    ensures went { Went (sight g.old.log g.old.short (Z.told g.old.z.now) (Z.faults g.old.z.now))
-        (sight g.new.log g.new.short (Z.told g.new.z.now) (Z.faults g.new.z.now)) }
-    ensures stage { Stage pair.now (sight g.old.log g.old.short (Z.told g.old.z.now) (Z.faults g.old.z.now))
-        (sight g.new.log g.new.short (Z.told g.new.z.now) (Z.faults g.new.z.now)) known.new result }
+    ensures stage { Stage pair.now (sight Z.Zfs g.old) (sight Z.Zfs g.new) known.new result }
     ensures safe { OnOk result (IsSafe pair.now known.new newest.now) }
     ensures alone { OnOk result (list_all (is_cursor_of pair.now.job newest.now.guid) known.new.marks ≡ true) }
     ensures only { OnOk result (known.new ≡ record known.old { marks = known.new.marks }) }
@@ -238,13 +223,9 @@ fn release_steps<Z: Zfs>(
     known: &mut Known,
     newest: &Newest,
 ) -> Result<(), Outcome>
-    requires at_work { AtWork pair.now known.old
-        (sight g.old.log g.old.short (Z.told g.old.z.now) (Z.faults g.old.z.now)) }
+    requires at_work { AtWork pair.now known.old (sight Z.Zfs g.old) }
     requires safe { IsSafe pair.now known.old newest.now }
-    ensures went { Went (sight g.old.log g.old.short (Z.told g.old.z.now) (Z.faults g.old.z.now))
-        (sight g.new.log g.new.short (Z.told g.new.z.now) (Z.faults g.new.z.now)) }
-    ensures stage { Stage pair.now (sight g.old.log g.old.short (Z.told g.old.z.now) (Z.faults g.old.z.now))
-        (sight g.new.log g.new.short (Z.told g.new.z.now) (Z.faults g.new.z.now)) known.new result }
+    ensures stage { Stage pair.now (sight Z.Zfs g.old) (sight Z.Zfs g.new) known.new result }
     ensures safe { OnOk result (IsSafe pair.now known.new newest.now) }
     ensures alone { OnOk result (known.new.step_held ≡ []) }
     ensures only { OnOk result (known.new ≡ record known.old { step_held = known.new.step_held }) }
@@ -269,13 +250,9 @@ pub(crate) fn settle<Z: Zfs>(
     newest: &Newest,
     version: &VersionName,
 ) -> Result<(), Outcome>
-    requires at_work { AtWork pair.now known.old
-        (sight g.old.log g.old.short (Z.told g.old.z.now) (Z.faults g.old.z.now)) }
+    requires at_work { AtWork pair.now known.old (sight Z.Zfs g.old) }
     requires may { MaySettle pair.now known.old newest.now version.now }
-    ensures went { Went (sight g.old.log g.old.short (Z.told g.old.z.now) (Z.faults g.old.z.now))
-        (sight g.new.log g.new.short (Z.told g.new.z.now) (Z.faults g.new.z.now)) }
-    ensures stage { Stage pair.now (sight g.old.log g.old.short (Z.told g.old.z.now) (Z.faults g.old.z.now))
-        (sight g.new.log g.new.short (Z.told g.new.z.now) (Z.faults g.new.z.now)) known.new result }
+    ensures stage { Stage pair.now (sight Z.Zfs g.old) (sight Z.Zfs g.new) known.new result }
     ensures safe { OnOk result (IsSafe pair.now known.new newest.now) }
     ensures alone { OnOk result (IsAlone pair.now known.new newest.now) }
     ensures only { OnOk result (OnlyMarks known.old known.new) }

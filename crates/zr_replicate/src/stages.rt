@@ -5,7 +5,8 @@ ghost use Rattle.zr_command.specs.Kinds.{kind_in};
 ghost use Rattle.zr_known.specs.Known.{arrival, is_own_kind, is_row_of, presence_after, set_among, without_name};
 ghost use Rattle.zr_known.specs.Replication.{MayDestroyMark, MayHoldLast, MayHoldStep, MayMark, MayReleaseLast, MayReleaseStep, MayTransfer};
 ghost use Rattle.zr_known.specs.declared.known.Receiving.TheVariants.{Nothing};
-ghost use Rattle.zr_replicate.specs.Working.{AtWork, HasArrived, IsMarked, sight, Stage, Went};
+ghost use Rattle.zr_permit.specs.Sight.{sight};
+ghost use Rattle.zr_replicate.specs.Working.{AtWork, HasArrived, IsMarked, Stage};
 ghost use Rattle.zr_command.specs.declared.version.VersionName.TheVariants.{Mark};
 
 use crate::commands;
@@ -26,13 +27,9 @@ pub(crate) fn hold_step<Z: Zfs>(
     known: &mut Known,
     name: &SnapName,
 ) -> Result<(), Outcome>
-    requires at_work { AtWork pair.now known.old
-        (sight g.old.log g.old.short (Z.told g.old.z.now) (Z.faults g.old.z.now)) }
+    requires at_work { AtWork pair.now known.old (sight Z.Zfs g.old) }
     requires may { MayHoldStep known.old name.now }
-    ensures went { Went (sight g.old.log g.old.short (Z.told g.old.z.now) (Z.faults g.old.z.now))
-        (sight g.new.log g.new.short (Z.told g.new.z.now) (Z.faults g.new.z.now)) }
-    ensures stage { Stage pair.now (sight g.old.log g.old.short (Z.told g.old.z.now) (Z.faults g.old.z.now))
-        (sight g.new.log g.new.short (Z.told g.new.z.now) (Z.faults g.new.z.now)) known.new result }
+    ensures stage { Stage pair.now (sight Z.Zfs g.old) (sight Z.Zfs g.new) known.new result }
     ensures known { OnOk result (known.new ≡
         record known.old { step_held = set_among true name.now known.old.step_held }) }
     ensures runner { g.new.z.ghost_name ≡ g.old.z.ghost_name }
@@ -51,13 +48,9 @@ pub(crate) fn hold_last<Z: Zfs>(
     known: &mut Known,
     name: &SnapName,
 ) -> Result<(), Outcome>
-    requires at_work { AtWork pair.now known.old
-        (sight g.old.log g.old.short (Z.told g.old.z.now) (Z.faults g.old.z.now)) }
+    requires at_work { AtWork pair.now known.old (sight Z.Zfs g.old) }
     requires may { MayHoldLast pair.now known.old name.now }
-    ensures went { Went (sight g.old.log g.old.short (Z.told g.old.z.now) (Z.faults g.old.z.now))
-        (sight g.new.log g.new.short (Z.told g.new.z.now) (Z.faults g.new.z.now)) }
-    ensures stage { Stage pair.now (sight g.old.log g.old.short (Z.told g.old.z.now) (Z.faults g.old.z.now))
-        (sight g.new.log g.new.short (Z.told g.new.z.now) (Z.faults g.new.z.now)) known.new result }
+    ensures stage { Stage pair.now (sight Z.Zfs g.old) (sight Z.Zfs g.new) known.new result }
     ensures known { OnOk result (known.new ≡
         record known.old { last_held = set_among true name.now known.old.last_held }) }
     ensures runner { g.new.z.ghost_name ≡ g.old.z.ghost_name }
@@ -76,13 +69,9 @@ pub(crate) fn release_last<Z: Zfs>(
     known: &mut Known,
     name: &SnapName,
 ) -> Result<(), Outcome>
-    requires at_work { AtWork pair.now known.old
-        (sight g.old.log g.old.short (Z.told g.old.z.now) (Z.faults g.old.z.now)) }
+    requires at_work { AtWork pair.now known.old (sight Z.Zfs g.old) }
     requires may { MayReleaseLast known.old name.now }
-    ensures went { Went (sight g.old.log g.old.short (Z.told g.old.z.now) (Z.faults g.old.z.now))
-        (sight g.new.log g.new.short (Z.told g.new.z.now) (Z.faults g.new.z.now)) }
-    ensures stage { Stage pair.now (sight g.old.log g.old.short (Z.told g.old.z.now) (Z.faults g.old.z.now))
-        (sight g.new.log g.new.short (Z.told g.new.z.now) (Z.faults g.new.z.now)) known.new result }
+    ensures stage { Stage pair.now (sight Z.Zfs g.old) (sight Z.Zfs g.new) known.new result }
     ensures known { OnOk result (known.new ≡
         record known.old { last_held = without_name name.now known.old.last_held }) }
     ensures runner { g.new.z.ghost_name ≡ g.old.z.ghost_name }
@@ -101,13 +90,9 @@ pub(crate) fn release_step<Z: Zfs>(
     known: &mut Known,
     name: &SnapName,
 ) -> Result<(), Outcome>
-    requires at_work { AtWork pair.now known.old
-        (sight g.old.log g.old.short (Z.told g.old.z.now) (Z.faults g.old.z.now)) }
+    requires at_work { AtWork pair.now known.old (sight Z.Zfs g.old) }
     requires may { MayReleaseStep pair.now known.old name.now }
-    ensures went { Went (sight g.old.log g.old.short (Z.told g.old.z.now) (Z.faults g.old.z.now))
-        (sight g.new.log g.new.short (Z.told g.new.z.now) (Z.faults g.new.z.now)) }
-    ensures stage { Stage pair.now (sight g.old.log g.old.short (Z.told g.old.z.now) (Z.faults g.old.z.now))
-        (sight g.new.log g.new.short (Z.told g.new.z.now) (Z.faults g.new.z.now)) known.new result }
+    ensures stage { Stage pair.now (sight Z.Zfs g.old) (sight Z.Zfs g.new) known.new result }
     ensures known { OnOk result (known.new ≡
         record known.old { step_held = without_name name.now known.old.step_held }) }
     ensures runner { g.new.z.ghost_name ≡ g.old.z.ghost_name }
@@ -126,13 +111,9 @@ pub(crate) fn destroy_mark<Z: Zfs>(
     known: &mut Known,
     name: &MarkName,
 ) -> Result<(), Outcome>
-    requires at_work { AtWork pair.now known.old
-        (sight g.old.log g.old.short (Z.told g.old.z.now) (Z.faults g.old.z.now)) }
+    requires at_work { AtWork pair.now known.old (sight Z.Zfs g.old) }
     requires may { MayDestroyMark pair.now known.old name.now }
-    ensures went { Went (sight g.old.log g.old.short (Z.told g.old.z.now) (Z.faults g.old.z.now))
-        (sight g.new.log g.new.short (Z.told g.new.z.now) (Z.faults g.new.z.now)) }
-    ensures stage { Stage pair.now (sight g.old.log g.old.short (Z.told g.old.z.now) (Z.faults g.old.z.now))
-        (sight g.new.log g.new.short (Z.told g.new.z.now) (Z.faults g.new.z.now)) known.new result }
+    ensures stage { Stage pair.now (sight Z.Zfs g.old) (sight Z.Zfs g.new) known.new result }
     ensures known { OnOk result (known.new ≡
         record known.old { marks = filter (λ row. not (is_row_of (Mark name.now) row)) known.old.marks }) }
     ensures runner { g.new.z.ghost_name ≡ g.old.z.ghost_name }
@@ -152,14 +133,10 @@ pub(crate) fn make_cursor<Z: Zfs>(
     version: &VersionName,
     name: &MarkName,
 ) -> Result<(), Outcome>
-    requires at_work { AtWork pair.now known.old
-        (sight g.old.log g.old.short (Z.told g.old.z.now) (Z.faults g.old.z.now)) }
+    requires at_work { AtWork pair.now known.old (sight Z.Zfs g.old) }
     requires own { is_own_kind (kind_in pair.now.job (Mark name.now)) ≡ true }
     requires may { MayMark pair.now known.old version.now name.now }
-    ensures went { Went (sight g.old.log g.old.short (Z.told g.old.z.now) (Z.faults g.old.z.now))
-        (sight g.new.log g.new.short (Z.told g.new.z.now) (Z.faults g.new.z.now)) }
-    ensures stage { Stage pair.now (sight g.old.log g.old.short (Z.told g.old.z.now) (Z.faults g.old.z.now))
-        (sight g.new.log g.new.short (Z.told g.new.z.now) (Z.faults g.new.z.now)) known.new result }
+    ensures stage { Stage pair.now (sight Z.Zfs g.old) (sight Z.Zfs g.new) known.new result }
     ensures known { OnOk result (IsMarked version.now name.now known.old known.new) }
     ensures runner { g.new.z.ghost_name ≡ g.old.z.ghost_name }
 {
@@ -177,13 +154,9 @@ pub(crate) fn send<Z: Zfs>(
     known: &mut Known,
     transfer: Transfer,
 ) -> Result<(), Outcome>
-    requires at_work { AtWork pair.now known.old
-        (sight g.old.log g.old.short (Z.told g.old.z.now) (Z.faults g.old.z.now)) }
+    requires at_work { AtWork pair.now known.old (sight Z.Zfs g.old) }
     requires may { MayTransfer pair.now known.old transfer }
-    ensures went { Went (sight g.old.log g.old.short (Z.told g.old.z.now) (Z.faults g.old.z.now))
-        (sight g.new.log g.new.short (Z.told g.new.z.now) (Z.faults g.new.z.now)) }
-    ensures stage { Stage pair.now (sight g.old.log g.old.short (Z.told g.old.z.now) (Z.faults g.old.z.now))
-        (sight g.new.log g.new.short (Z.told g.new.z.now) (Z.faults g.new.z.now)) known.new result }
+    ensures stage { Stage pair.now (sight Z.Zfs g.old) (sight Z.Zfs g.new) known.new result }
     ensures known { OnOk result (HasArrived transfer known.old known.new) }
     ensures runner { g.new.z.ghost_name ≡ g.old.z.ghost_name }
 {

@@ -4,7 +4,8 @@ ghost use Rattle.std.specs.Prelude.{◌≡◌, ◌<◌, IfOk, OnOk, Some};
 ghost use Rattle.zr_known.specs.Replication.{next_transfer, plan_known};
 ghost use Rattle.zr_plan.specs.declared.target.Planned.TheVariants.{UpToDate};
 ghost use Rattle.zr_replicate.specs.Stepping.{IsAtRest, IsReady, IsUntouched, newest_by, SameListings, step_count};
-ghost use Rattle.zr_replicate.specs.Working.{AtWork, sight, Stage, Went};
+ghost use Rattle.zr_permit.specs.Sight.{sight};
+ghost use Rattle.zr_replicate.specs.Working.{AtWork, Stage};
 ghost use Rattle.zr_command.specs.declared.version.VersionName.TheVariants.{Snap};
 
 use crate::settling::{Newest, settle};
@@ -37,14 +38,10 @@ fn step<Z: Zfs>(
     known: &mut Known,
     transfer: Transfer,
 ) -> Result<(), Outcome>
-    requires at_work { AtWork pair.now known.old
-        (sight g.old.log g.old.short (Z.told g.old.z.now) (Z.faults g.old.z.now)) }
+    requires at_work { AtWork pair.now known.old (sight Z.Zfs g.old) }
     requires ready { IsReady pair.now known.old }
     requires next { next_transfer pair.now known.old ≡ Some transfer }
-    ensures went { Went (sight g.old.log g.old.short (Z.told g.old.z.now) (Z.faults g.old.z.now))
-        (sight g.new.log g.new.short (Z.told g.new.z.now) (Z.faults g.new.z.now)) }
-    ensures stage { Stage pair.now (sight g.old.log g.old.short (Z.told g.old.z.now) (Z.faults g.old.z.now))
-        (sight g.new.log g.new.short (Z.told g.new.z.now) (Z.faults g.new.z.now)) known.new result }
+    ensures stage { Stage pair.now (sight Z.Zfs g.old) (sight Z.Zfs g.new) known.new result }
     ensures rests { OnOk result (IsAtRest pair.now known.new) }
     ensures same { OnOk result (SameListings known.old known.new) }
     ensures fewer { OnOk result (IsAtRest pair.now known.old → step_count (plan_known pair.now known.new) < step_count (plan_known pair.now known.old)) }
@@ -65,13 +62,9 @@ fn first_step<Z: Zfs>(
     pair: &Pair,
     known: &mut Known,
 ) -> Result<(), Outcome>
-    requires at_work { AtWork pair.now known.old
-        (sight g.old.log g.old.short (Z.told g.old.z.now) (Z.faults g.old.z.now)) }
+    requires at_work { AtWork pair.now known.old (sight Z.Zfs g.old) }
     requires untouched { IsUntouched known.old }
-    ensures went { Went (sight g.old.log g.old.short (Z.told g.old.z.now) (Z.faults g.old.z.now))
-        (sight g.new.log g.new.short (Z.told g.new.z.now) (Z.faults g.new.z.now)) }
-    ensures stage { Stage pair.now (sight g.old.log g.old.short (Z.told g.old.z.now) (Z.faults g.old.z.now))
-        (sight g.new.log g.new.short (Z.told g.new.z.now) (Z.faults g.new.z.now)) known.new result }
+    ensures stage { Stage pair.now (sight Z.Zfs g.old) (sight Z.Zfs g.new) known.new result }
     ensures rests { OnOk result (IsAtRest pair.now known.new) }
     ensures same { OnOk result (SameListings known.old known.new) }
     ensures runner { g.new.z.ghost_name ≡ g.old.z.ghost_name }
@@ -90,13 +83,9 @@ fn all_steps<Z: Zfs>(
     pair: &Pair,
     known: &mut Known,
 ) -> Result<(), Outcome>
-    requires at_work { AtWork pair.now known.old
-        (sight g.old.log g.old.short (Z.told g.old.z.now) (Z.faults g.old.z.now)) }
+    requires at_work { AtWork pair.now known.old (sight Z.Zfs g.old) }
     requires rests { IsAtRest pair.now known.old }
-    ensures went { Went (sight g.old.log g.old.short (Z.told g.old.z.now) (Z.faults g.old.z.now))
-        (sight g.new.log g.new.short (Z.told g.new.z.now) (Z.faults g.new.z.now)) }
-    ensures stage { Stage pair.now (sight g.old.log g.old.short (Z.told g.old.z.now) (Z.faults g.old.z.now))
-        (sight g.new.log g.new.short (Z.told g.new.z.now) (Z.faults g.new.z.now)) known.new result }
+    ensures stage { Stage pair.now (sight Z.Zfs g.old) (sight Z.Zfs g.new) known.new result }
     ensures rests { OnOk result (IsAtRest pair.now known.new) }
     ensures same { OnOk result (SameListings known.old known.new) }
     ensures up_to_date { OnOk result (plan_known pair.now known.new ≡ Some UpToDate) }
@@ -118,20 +107,17 @@ pub(crate) fn bring_up_to_date<Z: Zfs>(
     pair: &Pair,
     known: &mut Known,
 ) -> Result<(), Outcome>
-    requires at_work { AtWork pair.now known.old
-        (sight g.old.log g.old.short (Z.told g.old.z.now) (Z.faults g.old.z.now)) }
+    requires at_work { AtWork pair.now known.old (sight Z.Zfs g.old) }
     requires ready { IsReady pair.now known.old }
-    ensures went { Went (sight g.old.log g.old.short (Z.told g.old.z.now) (Z.faults g.old.z.now))
-        (sight g.new.log g.new.short (Z.told g.new.z.now) (Z.faults g.new.z.now)) }
-    ensures stage { Stage pair.now (sight g.old.log g.old.short (Z.told g.old.z.now) (Z.faults g.old.z.now))
-        (sight g.new.log g.new.short (Z.told g.new.z.now) (Z.faults g.new.z.now)) known.new result }
+    ensures stage { Stage pair.now (sight Z.Zfs g.old) (sight Z.Zfs g.new) known.new result }
     ensures rests { OnOk result (IsAtRest pair.now known.new) }
     ensures same { OnOk result (SameListings known.old known.new) }
     ensures up_to_date { OnOk result (plan_known pair.now known.new ≡ Some UpToDate) }
     ensures runner { g.new.z.ghost_name ≡ g.old.z.ghost_name }
 {
-    if matches!(known.target, Presence::Absent) {
-        first_step(alloc, g, pair, known)?;
+    if !matches!(known.target, Presence::Absent) {
+        return all_steps(alloc, g, pair, known);
     }
+    first_step(alloc, g, pair, known)?;
     all_steps(alloc, g, pair, known)
 }

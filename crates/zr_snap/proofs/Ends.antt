@@ -1,4 +1,4 @@
-use Rattle.std.proofs.Common.{◌≡◌, ◌≢◌, ◌∙◌, ℕ, List, [], ◌∷◌, Option, ap, filter, length, not, refl, subst, sym}
+use Rattle.std.proofs.Common.{◌≡◌, ◌≢◌, ◌∙◌, ℕ, true, false, List, [], ◌∷◌, Option, ap, filter, length, not, refl, subst, sym}
 use Rattle.std.specs.List.{All}
 use Rattle.std.proofs.lemmas.List.Elements.{All-nil}
 use Rattle.zr_names.specs.declared.outcome.Outcome.{Outcome}
@@ -10,11 +10,18 @@ use Rattle.zr_command.specs.declared.command.Answer.TheVariants as answer
 use Rattle.zr_command.specs.declared.command.Cmd.TheVariants as cmd
 use Rattle.zr_command.specs.declared.command.Reply.TheVariants as reply
 use Rattle.zr_command.specs.declared.version.SetRow.{SetRow}
+use Rattle.zr_base.specs.Count.{Rose}
+use Rattle.zr_command.specs.declared.command.Entry.{Entry}
+use Rattle.zr_permit.specs.declared.told.Told.{Told}
 use Rattle.zr_permit.specs.declared.told.Told.TheVariants as told
+use Rattle.zr_permit.specs.Sight.{HasEnded, HasJustBegun, Sight, Went}
+use Rattle.zr_permit.specs.Turned.{Records, RecordsRun, RecordsUnit, Turns}
+use Rattle.zr_permit.proofs.Ending.{begun-at-work, ended-undone, went-nowhere}
+use Rattle.zr_snap.specs.Scanning.{Gives}
 use Rattle.zr_jobs.specs.declared.job.Job.{Job}
 use Rattle.zr_jobs.specs.declared.job.JobSet.{JobSet}
 use Rattle.zr_jobs.specs.Jobs.{fits_in, job_at, matched}
-use Rattle.zr_permit.specs.Result.{capped, ResultOf}
+use Rattle.zr_permit.specs.Result.{capped, ended_as, is_child_fault, is_out_of_memory, ResultOf}
 use Rattle.zr_permit.specs.Transcript.{Allowed, GoesOn, Permits, Transcript, Turn}
 
 pub failed-undone : told.Failed ≢ told.Done
@@ -58,3 +65,33 @@ scanned-result jobs jobs' unit unit' turns rows ended same_jobs same_unit is tol
       found_are = refl;
       too_long_are = refl;
     })
+
+pub short-undone : told.NoMemory ≢ told.Done
+short-undone e = cc
+
+-- a scan has ended where its listing was not done
+pub scan-ended : (before now : Sight) (given : Told) (ended : Outcome) → HasJustBegun before → before.unit.work ≡ work.Scan → Went before now → Turns before.turns now.turns cmd.Sets given → (given ≡ told.Failed → Rose before.faults now.faults) → ((base : Option (List Entry)) → Records base before.told before.turns → RecordsRun base now.told before.turns now.turns cmd.Sets given) → given ≢ told.Done → ended ≡ ended_as (length now.turns) given → HasEnded before now ended
+scan-ended before now given ended begun is went turns rose records undone ended_is =
+    ended-undone before now cmd.Sets given ended (begun-at-work before begun) went turns rose records undone (λ failed. scan-ends before.unit.work is) ended_is
+
+-- what is given of the same unit of the same jobs
+pub gives-same : (jobs jobs' : JobSet) (unit unit' : Unit) (turns : Transcript) (ended : Outcome) (units : List Unit) → jobs' ≡ jobs → unit' ≡ unit → Gives jobs' unit' turns ended units → Gives jobs unit turns ended units
+gives-same jobs jobs' unit unit' turns ended units same_jobs same_unit gives =
+    let by_jobs : JobSet → Type 0 = λ j. Gives j unit' turns ended units in
+    let by_unit : Unit → Type 0 = λ u. Gives jobs u turns ended units in
+    subst by_unit same_unit (subst by_jobs same_jobs gives)
+
+no-fault : false ≡ true → ⊥
+no-fault e = cc
+
+-- a scan has ended with the outcome of its listing
+pub scanned-ended : (now : Sight) (ended : Outcome) → ResultOf now.jobs now.unit now.turns ended → is_child_fault ended ≡ false → is_out_of_memory ended ≡ false → HasEnded now now ended
+scanned-ended now ended result sound memory = record {
+  went = went-nowhere now;
+  result = result;
+  records = λ base records. as-is base ended memory records;
+  rose = λ fault. absurd (no-fault (sym sound ∙ fault));
+} where
+  as-is : (base : Option (List Entry)) (outcome_is : Outcome) → is_out_of_memory outcome_is ≡ false → Records base now.told now.turns → RecordsUnit base now.told now.turns outcome_is
+  as-is base outcome.NoMemory short records = cc
+  as-is base other short records = records

@@ -1,7 +1,7 @@
 //! The unit of work that lists the datasets and finds the units of a job.
 #![tactic(auto)]
 
-ghost use Rattle.std.specs.Prelude.{◌≡◌, ◌≤◌, [], ◌∷◌, ◌++◌, IfOk, OnOk, IsPermutation, List, Option, false, true, filter, flat_map, length, map, not};
+ghost use Rattle.std.specs.Prelude.{◌≡◌, [], ◌∷◌, ◌++◌, IfOk, OnOk, IsPermutation, List, Option, false, true, filter, flat_map, length, map, not};
 ghost use Rattle.std.specs.Ordering.{nat_cmp};
 ghost use Rattle.std.specs.List.Sorted.{IsSorted};
 ghost use Rattle.std.specs.Cmp.Lexicographic.{slice_cmp};
@@ -10,7 +10,8 @@ ghost use Rattle.zr_names.specs.declared.outcome.Outcome.TheVariants as outcome;
 ghost use Rattle.zr_names.specs.declared.unit.Work.TheVariants as work;
 ghost use Rattle.zr_jobs.specs.Jobs.{destination_of, fits_in, job_at, matched, prunings, replications, rules_of, units_at, UnitsOf};
 ghost use Rattle.zr_permit.specs.Result.{capped, is_child_fault, is_out_of_memory, ResultOf};
-ghost use Rattle.zr_permit.specs.Turned.{HasTurned, is_short, Records, RecordsRun, RecordsUnit, Turns};
+ghost use Rattle.zr_permit.specs.Sight.{HasEnded, HasJustBegun, IsAtWork, sight, Went};
+ghost use Rattle.zr_permit.specs.Turned.{HasTurned, is_short, Records, RecordsRun, Turns};
 ghost use Rattle.zr_snap.specs.Scanning.{Gives};
 ghost use Rattle.zr_command.specs.declared.command.Cmd.TheVariants as cmd;
 ghost use Rattle.zr_command.specs.declared.command.Entry.{Entry};
@@ -166,16 +167,14 @@ fn capped(count: usize) -> u32
 
 /// Lists the datasets.
 fn list<Z: Zfs>(g: &mut Guarded<'_, Z>) -> Told
-    requires fresh { g.old.log.turns ≡ [] }
-    requires kind { g.old.log.unit.work ≡ work.Scan }
-    requires ample { g.old.short ≡ false }
-    ensures jobs { g.new.log.jobs ≡ g.old.log.jobs }
-    ensures unit { g.new.log.unit ≡ g.old.log.unit }
-    ensures turns { Turns [] g.new.log.turns cmd.Sets result }
-    ensures later { Z.faults g.old.z.now ≤ Z.faults g.new.z.now }
-    ensures rose { result ≡ Told.Failed → Rose (Z.faults g.old.z.now) (Z.faults g.new.z.now) }
-    ensures records { (base : Option (List Entry)) → Records base (Z.told g.old.z.now) [] →
-        RecordsRun base (Z.told g.new.z.now) g.old.log.jobs g.old.log.unit g.new.log.turns result }
+    requires begun { HasJustBegun (sight Z.Zfs g.old) }
+    requires kind { (sight Z.Zfs g.old).unit.work ≡ work.Scan }
+    ensures went { Went (sight Z.Zfs g.old) (sight Z.Zfs g.new) }
+    ensures turns { Turns (sight Z.Zfs g.old).turns (sight Z.Zfs g.new).turns cmd.Sets result }
+    ensures memory { (sight Z.Zfs g.new).out_of_memory ≡ is_short result }
+    ensures rose { result ≡ Told.Failed → Rose (sight Z.Zfs g.old).faults (sight Z.Zfs g.new).faults }
+    ensures records { (base : Option (List Entry)) → Records base (sight Z.Zfs g.old).told (sight Z.Zfs g.old).turns →
+        RecordsRun base (sight Z.Zfs g.new).told (sight Z.Zfs g.old).turns (sight Z.Zfs g.new).turns cmd.Sets result }
     ensures runner { g.new.z.ghost_name ≡ g.old.z.ghost_name }
 {
     g.run(Cmd::Sets)
@@ -186,12 +185,12 @@ fn scan_listed<Z: Zfs>(
     alloc: Global,
     g: &Guarded<'_, Z>,
 ) -> Result<(Outcome, Vec<Unit>), AllocError>
-    requires work { g.now.log.unit.work ≡ work.Scan }
-    requires listed { HasTurned [] g.now.log.turns cmd.Sets Told.Done }
+    requires work { (sight Z.Zfs g.now).unit.work ≡ work.Scan }
+    requires listed { HasTurned [] (sight Z.Zfs g.now).turns cmd.Sets Told.Done }
     ensures result { IfOk result (λ found.
-        ResultOf g.now.log.jobs g.now.log.unit g.now.log.turns found.0) }
+        ResultOf (sight Z.Zfs g.now).jobs (sight Z.Zfs g.now).unit (sight Z.Zfs g.now).turns found.0) }
     ensures units { IfOk result (λ found.
-        Gives g.now.log.jobs g.now.log.unit g.now.log.turns found.0 found.1.items) }
+        Gives (sight Z.Zfs g.now).jobs (sight Z.Zfs g.now).unit (sight Z.Zfs g.now).turns found.0 found.1.items) }
     ensures no_fault { IfOk result (λ found. is_child_fault found.0 ≡ false) }
     ensures memory { IfOk result (λ found. is_out_of_memory found.0 ≡ false) }
 {
@@ -205,13 +204,11 @@ fn scan_listed<Z: Zfs>(
 
 /// The outcome of a scan whose listing was done.
 fn scan_done<Z: Zfs>(alloc: Global, g: &Guarded<'_, Z>) -> (Outcome, Vec<Unit>)
-    requires work { g.now.log.unit.work ≡ work.Scan }
-    requires listed { HasTurned [] g.now.log.turns cmd.Sets Told.Done }
-    ensures result { ResultOf g.now.log.jobs g.now.log.unit g.now.log.turns result.0 }
-    ensures units { Gives g.now.log.jobs g.now.log.unit g.now.log.turns result.0 result.1.items }
-    ensures no_fault { is_child_fault result.0 ≡ false }
-    ensures records { (base told : Option (List Entry)) → Records base told g.now.log.turns →
-        RecordsUnit base told g.now.log.jobs g.now.log.unit g.now.log.turns result.0 }
+    requires work { (sight Z.Zfs g.now).unit.work ≡ work.Scan }
+    requires at_work { IsAtWork (sight Z.Zfs g.now) }
+    requires listed { HasTurned [] (sight Z.Zfs g.now).turns cmd.Sets Told.Done }
+    ensures ended { HasEnded (sight Z.Zfs g.now) (sight Z.Zfs g.now) result.0 }
+    ensures units { Gives (sight Z.Zfs g.now).jobs (sight Z.Zfs g.now).unit (sight Z.Zfs g.now).turns result.0 result.1.items }
 {
     match scan_listed(alloc, g) {
         Ok(found) => found,
@@ -222,24 +219,16 @@ fn scan_done<Z: Zfs>(alloc: Global, g: &Guarded<'_, Z>) -> (Outcome, Vec<Unit>)
 /// Lists the datasets, and gives the units of each path that the job's filter matches, in byte order of
 /// paths. A path that is too long to work on, or has a target that is, gives no units, and is counted.
 pub fn scan<Z: Zfs>(alloc: Global, g: &mut Guarded<'_, Z>) -> (Outcome, Vec<Unit>)
-    requires fresh { g.old.log.turns ≡ [] }
-    requires ample { g.old.short ≡ false }
-    requires kind { g.old.log.unit.work ≡ work.Scan }
-    ensures jobs { g.new.log.jobs ≡ g.old.log.jobs }
-    ensures unit { g.new.log.unit ≡ g.old.log.unit }
-    ensures result { ResultOf g.old.log.jobs g.old.log.unit g.new.log.turns result.0 }
-    ensures units { Gives g.old.log.jobs g.old.log.unit g.new.log.turns result.0 result.1.items }
-    ensures later { Z.faults g.old.z.now ≤ Z.faults g.new.z.now }
-    ensures fault_rose { is_child_fault result.0 ≡ true →
-        Rose (Z.faults g.old.z.now) (Z.faults g.new.z.now) }
-    ensures records { (base : Option (List Entry)) → Records base (Z.told g.old.z.now) [] →
-        RecordsUnit base (Z.told g.new.z.now) g.old.log.jobs g.old.log.unit g.new.log.turns result.0 }
+    requires begun { HasJustBegun (sight Z.Zfs g.old) }
+    requires kind { (sight Z.Zfs g.old).unit.work ≡ work.Scan }
+    ensures ended { HasEnded (sight Z.Zfs g.old) (sight Z.Zfs g.new) result.0 }
+    ensures units { Gives (sight Z.Zfs g.old).jobs (sight Z.Zfs g.old).unit (sight Z.Zfs g.new).turns result.0 result.1.items }
     ensures runner { g.new.z.ghost_name ≡ g.old.z.ghost_name }
 {
     match list(g) {
         Told::Done => scan_done(alloc, g),
         Told::Failed => (g.ended(Told::Failed), Vec::new(alloc)),
         Told::Garbled(line) => (g.ended(Told::Garbled(line)), Vec::new(alloc)),
-        Told::NoMemory => (Outcome::NoMemory, Vec::new(alloc)),
+        Told::NoMemory => (g.ended(Told::NoMemory), Vec::new(alloc)),
     }
 }

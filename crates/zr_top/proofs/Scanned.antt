@@ -12,11 +12,12 @@ use Rattle.zr_jobs.specs.Jobs.{IsScanned, IsWorkOf, UnitsOf}
 use Rattle.zr_command.specs.declared.command.Entry.{Entry}
 use Rattle.zr_command.specs.declared.command.Entry.TheVariants.{Begin}
 use Rattle.zr_world.specs.Answering.{appended}
-use Rattle.zr_permit.specs.Result.{is_out_of_memory, ResultOf}
+use Rattle.zr_permit.specs.Result.{is_out_of_memory}
+use Rattle.zr_permit.specs.Sight.{HasEnded, HasJustBegun, Sight}
 use Rattle.zr_permit.specs.Transcript.{Legal, Transcript}
-use Rattle.zr_permit.specs.Turned.{Records, RecordsUnit}
 use Rattle.zr_jobs.proofs.Pairs.{units-all}
 use Rattle.zr_permit.proofs.Running.{ran-with}
+use Rattle.zr_snap.proofs.Ends.{gives-same}
 use Rattle.zr_snap.specs.Scanning.{Gives}
 use Rattle.zr_top.specs.Due.{ScanRan}
 use Rattle.zr_top.specs.Units.{IsDueUnit, IsDueWork}
@@ -69,9 +70,7 @@ gives-due jobs unit turns other units inside gives = no-units jobs units gives
 -- the same, of a unit of the same jobs
 pub scan-due : (jobs jobs' : JobSet) (unit unit' : Unit) (turns : Transcript) (ended : Outcome) (units : List Unit) → jobs' ≡ jobs → unit' ≡ unit → unit.job < length jobs.jobs → Gives jobs' unit' turns ended units → All (IsDueUnit jobs) units
 scan-due jobs jobs' unit unit' turns ended units same_jobs same_unit inside gives =
-    let by_jobs : JobSet → Type 0 = λ j. Gives j unit' turns ended units in
-    let by_unit : Unit → Type 0 = λ u. Gives jobs u turns ended units in
-    gives-due jobs unit turns ended units inside (subst by_unit same_unit (subst by_jobs same_jobs gives))
+    gives-due jobs unit turns ended units inside (gives-same jobs jobs' unit unit' turns ended units same_jobs same_unit gives)
 
 -- what a scan found, by the transcript of its record, which may be another only for want of memory
 finds : (jobs : JobSet) (unit : Unit) (turns kept : Transcript) (ended : Outcome) (units : List Unit) → Gives jobs unit turns ended units → (is_out_of_memory ended ≡ false → Gives jobs unit kept ended units) → Gives jobs unit kept ended units
@@ -79,17 +78,15 @@ finds jobs unit turns kept outcome.NoMemory units gives same = gives
 finds jobs unit turns kept other units gives same = same refl
 
 -- a scan that began and ended was run, and found its units
-pub scan-ran : (jobs jobs' : JobSet) (unit unit' : Unit) (run : ℕ) (before begun now : Option (List Entry)) (turns : Transcript) (ended : Outcome) (units : List Unit) → jobs' ≡ jobs → unit' ≡ unit → begun ≡ appended before (Begin unit run ∷ []) → Legal jobs' unit' turns → ResultOf jobs' unit' turns ended → ((base : Option (List Entry)) → Records base begun [] → RecordsUnit base now jobs' unit' turns ended) → Gives jobs' unit' turns ended units → ScanRan jobs unit run before now ended units
-scan-ran jobs jobs' unit unit' run before begun now turns ended units same_jobs same_unit begins legal result records gives' =
-    let by_jobs : JobSet → Type 0 = λ j. Gives j unit' turns ended units in
-    let by_unit : Unit → Type 0 = λ u. Gives jobs u turns ended units in
-    let gives = subst by_unit same_unit (subst by_jobs same_jobs gives') in
+pub scan-ran : (jobs : JobSet) (unit : Unit) (run : ℕ) (before : Option (List Entry)) (begun now : Sight) (ended : Outcome) (units : List Unit) → begun.jobs ≡ jobs → begun.unit ≡ unit → begun.told ≡ appended before (Begin unit run ∷ []) → HasJustBegun begun → Legal now.jobs now.unit now.turns → HasEnded begun now ended → Gives begun.jobs begun.unit now.turns ended units → ScanRan jobs unit run before now.told ended units
+scan-ran jobs unit run before begun now ended units same_jobs same_unit begins fresh legal has gives' =
+    let gives = gives-same jobs begun.jobs unit begun.unit now.turns ended units same_jobs same_unit gives' in
     let Known : Transcript → Type 0 = λ ts. Gives jobs unit ts ended units in
-    let ran = ran-with jobs jobs' unit unit' run before begun now turns ended Known same_jobs same_unit begins legal result records gives in
+    let ran = ran-with jobs unit run before begun now ended Known same_jobs same_unit begins fresh legal has gives in
     record {
       begun = Some (run, ran.0.turns);
       numbered = refl;
       ends_well = (ran.0.legal, ran.0.result);
       recorded = ran.0.recorded;
-      finds = finds jobs unit turns ran.0.turns ended units gives ran.1;
+      finds = finds jobs unit now.turns ran.0.turns ended units gives ran.1;
     }

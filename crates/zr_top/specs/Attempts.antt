@@ -9,7 +9,7 @@ use Rattle.zr_command.specs.declared.command.Entry.TheVariants.{Begin}
 use Rattle.zr_world.specs.Answering.{appended}
 use Rattle.zr_jobs.specs.declared.job.JobSet.{JobSet}
 use Rattle.zr_jobs.specs.Jobs.{IsOfFile}
-use Rattle.zr_permit.specs.Result.{is_out_of_memory, ResultOf}
+use Rattle.zr_permit.specs.Runs.{EndsAs}
 use Rattle.zr_permit.specs.Transcript.{Legal, Transcript}
 use Rattle.zr_permit.specs.Turned.{calls}
 
@@ -27,12 +27,12 @@ run_entries unit (Some begun) = Begin unit begun.0 ∷ calls begun.1
 abbrev pub entries : List Attempt → List Entry
 entries attempts = flat_map (λ (a : Attempt). run_entries a.unit a.begun) attempts
 
--- a begun run is legal, and ended with its result unless memory was refused; only for want of memory a
--- unit is not begun
+-- a begun run is legal and ended with its result, and with want of memory only where no command failed and no listing was
+-- garbled before it; only for want of memory a unit is not begun
 abbrev pub EndsWell : JobSet → Unit → Outcome → Option (ℕ × Transcript) → Type 0
 EndsWell jobs unit ended None = ended ≡ outcome.NoMemory
 EndsWell jobs unit ended (Some begun) =
-    Legal jobs unit begun.1 × (is_out_of_memory ended ≡ false → ResultOf jobs unit begun.1 ended)
+    Legal jobs unit begun.1 × EndsAs jobs unit begun.1 ended
 
 -- a unit of the job file that ended as its transcript says
 pub record IsGood (jobs : JobSet) (attempt : Attempt) : Type 0 where

@@ -1,13 +1,12 @@
-ghost use Rattle.std.specs.Prelude.{◌≡◌, ◌≤◌, ◌<◌, ◌^◌, [], All, List, Option, false, true, length};
+ghost use Rattle.std.specs.Prelude.{◌≡◌, ◌≤◌, ◌<◌, All, true, length};
 ghost use Rattle.zr_base.specs.Count.{Rose};
 ghost use Rattle.zr_names.specs.declared.unit.Work.TheVariants as work;
 ghost use Rattle.zr_jobs.specs.Jobs.{IsOfFile};
-ghost use Rattle.zr_permit.specs.Result.{is_child_fault, ResultOf};
+ghost use Rattle.zr_permit.specs.Result.{is_child_fault};
 ghost use Rattle.zr_permit.specs.Runs.{Ran};
-ghost use Rattle.zr_permit.specs.Turned.{Records, RecordsUnit};
+ghost use Rattle.zr_permit.specs.Sight.{HasEnded, HasJustBegun, sight};
 ghost use Rattle.zr_top.specs.Due.{scan_of, ScanRan};
 ghost use Rattle.zr_top.specs.Units.{IsDueUnit, IsDueWork};
-ghost use Rattle.zr_command.specs.declared.command.Entry.{Entry};
 
 use std::alloc::Global;
 use zr_jobs::JobSet;
@@ -59,18 +58,10 @@ pub fn run_scan<Z: Zfs>(
 
 /// Does the work of a unit that has just begun.
 fn work<Z: Zfs>(alloc: Global, g: &mut Guarded<'_, Z>) -> Outcome
-    requires fresh { g.old.log.turns ≡ [] }
-    requires ample { g.old.short ≡ false }
-    requires of_file { IsOfFile g.old.log.jobs g.old.log.unit }
-    requires kind { IsDueWork g.old.log.unit.work }
-    ensures jobs { g.new.log.jobs ≡ g.old.log.jobs }
-    ensures unit { g.new.log.unit ≡ g.old.log.unit }
-    ensures result { ResultOf g.old.log.jobs g.old.log.unit g.new.log.turns result }
-    ensures later { Z.faults g.old.z.now ≤ Z.faults g.new.z.now }
-    ensures fault_rose { is_child_fault result ≡ true →
-        Rose (Z.faults g.old.z.now) (Z.faults g.new.z.now) }
-    ensures records { (base : Option (List Entry)) → Records base (Z.told g.old.z.now) [] →
-        RecordsUnit base (Z.told g.new.z.now) g.old.log.jobs g.old.log.unit g.new.log.turns result }
+    requires begun { HasJustBegun (sight Z.Zfs g.old) }
+    requires of_file { IsOfFile (sight Z.Zfs g.old).jobs (sight Z.Zfs g.old).unit }
+    requires kind { IsDueWork (sight Z.Zfs g.old).unit.work }
+    ensures ended { HasEnded (sight Z.Zfs g.old) (sight Z.Zfs g.new) result }
     ensures runner { g.new.z.ghost_name ≡ g.old.z.ghost_name }
 {
     match g.unit().work {

@@ -1,8 +1,8 @@
-use Rattle.std.proofs.Common.{◌∙◌, ap}
+use Rattle.std.proofs.Common.{◌∙◌, ap, rules}
 use Rattle.zr_known.specs.declared.known.Known.{Known}
 use Rattle.zr_replicate.proofs.Lists.{match-some}
 use Rattle.zr_replicate.proofs.Marking.{destroyed-safe, fewer-marks, marks-again, may-destroy}
-use Rattle.zr_replicate.proofs.Turning.{went-on}
+use Rattle.zr_replicate.proofs.Turning.{goes-on-with, ends-with}
 use Rattle.zr_replicate.proofs.settling.destroy_other_marks.Goals as goal
 
 pub destroy_mark-requires-clause-may : goal.destroy_mark-requires-clause-may
@@ -18,10 +18,11 @@ loop-name-preserved g c =
     let inv = c.loop-name.invariant in
     let did = c.in_ok-destroy_mark-in-Ok-Some.ensures in
     record {
-      went = went-on _ _ _ inv.went did.went;
-      at_work = did.stage.at_work;
-      follows = λ base records. did.stage.follows base (inv.follows base records);
+      stage = goes-on-with _ _ _ _ _ _ inv.stage did.stage;
       safe = destroyed-safe c.args.pair.now c.loop-name.known c.destroy_mark.new.known c.args.newest.now c.in-Ok-Some.name inv.safe (match-some _ _ c.in-Ok-Some.field-0 c.in-Ok-Some.name c.in-Ok-Some.field-0-is c.in-Ok-Some.ensures) did.known;
       only = marks-again c.args.known.now c.loop-name.known c.destroy_mark.new.known _ inv.only did.known;
       runner = did.runner ∙ inv.runner;
     }
+
+pub returns-in_err-destroy_mark-in-Ok-Some-clause-stage : goal.returns-in_err-destroy_mark-in-Ok-Some-clause-stage
+returns-in_err-destroy_mark-in-Ok-Some-clause-stage g c = let ended = ends-with _ _ _ _ _ _ c.loop-name.invariant.stage c.in_err-destroy_mark-in-Ok-Some.ensures.stage in search rules

@@ -1,18 +1,13 @@
 use Rattle.std.proofs.Common.{◌≡◌, length}
 use Rattle.zr_replicate.specs.Settling.{IsSafe}
-use Rattle.zr_replicate.specs.Working.{AtWork, Follows, sight, Went}
+use Rattle.zr_permit.specs.Sight.{sight}
+use Rattle.zr_replicate.specs.Working.{GoesOnWith}
 use Rattle.zr_replicate.proofs.settling.release_other_last.Given as goal
 
 -- the newest snapshot is safe, and only last-received holds have gone
 abbrev pub invariant-loop-name : goal.invariant-loop-name
 invariant-loop-name g l = record {
-  went :
-      Went (sight l.fn.g.log l.fn.g.short (g.Z.Zfs.told l.fn.g.z.now) (g.Z.Zfs.faults l.fn.g.z.now))
-      (sight l.g.log l.g.short (g.Z.Zfs.told l.g.z.now) (g.Z.Zfs.faults l.g.z.now));
-  at_work : AtWork l.pair l.known (sight l.g.log l.g.short (g.Z.Zfs.told l.g.z.now) (g.Z.Zfs.faults l.g.z.now));
-  follows :
-      Follows (sight l.fn.g.log l.fn.g.short (g.Z.Zfs.told l.fn.g.z.now) (g.Z.Zfs.faults l.fn.g.z.now))
-      (sight l.g.log l.g.short (g.Z.Zfs.told l.g.z.now) (g.Z.Zfs.faults l.g.z.now));
+  stage : GoesOnWith l.pair (sight g.Z.Zfs l.fn.g) (sight g.Z.Zfs l.g) l.known;
   safe : IsSafe l.pair l.known l.newest;
   only : l.known ≡ record l.fn.known { last_held = l.known.last_held };
   runner : l.g.z.ghost_name ≡ l.fn.g.z.ghost_name;

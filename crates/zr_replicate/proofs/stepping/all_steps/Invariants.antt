@@ -1,19 +1,14 @@
 use Rattle.std.proofs.Common.{◌≡◌}
 use Rattle.zr_known.specs.Replication.{plan_known}
 use Rattle.zr_replicate.specs.Stepping.{IsAtRest, SameListings, step_count}
-use Rattle.zr_replicate.specs.Working.{AtWork, Follows, sight, Went}
+use Rattle.zr_permit.specs.Sight.{sight}
+use Rattle.zr_replicate.specs.Working.{GoesOnWith}
 use Rattle.zr_replicate.proofs.stepping.all_steps.Given as goal
 
 -- there is nothing to settle, and what was listed is as it was
 abbrev pub invariant-loop-transfer : goal.invariant-loop-transfer
 invariant-loop-transfer g l = record {
-  went :
-      Went (sight l.fn.g.log l.fn.g.short (g.Z.Zfs.told l.fn.g.z.now) (g.Z.Zfs.faults l.fn.g.z.now))
-      (sight l.g.log l.g.short (g.Z.Zfs.told l.g.z.now) (g.Z.Zfs.faults l.g.z.now));
-  at_work : AtWork l.pair l.known (sight l.g.log l.g.short (g.Z.Zfs.told l.g.z.now) (g.Z.Zfs.faults l.g.z.now));
-  follows :
-      Follows (sight l.fn.g.log l.fn.g.short (g.Z.Zfs.told l.fn.g.z.now) (g.Z.Zfs.faults l.fn.g.z.now))
-      (sight l.g.log l.g.short (g.Z.Zfs.told l.g.z.now) (g.Z.Zfs.faults l.g.z.now));
+  stage : GoesOnWith l.pair (sight g.Z.Zfs l.fn.g) (sight g.Z.Zfs l.g) l.known;
   rests : IsAtRest l.pair l.known;
   same : SameListings l.fn.known l.known;
   runner : l.g.z.ghost_name ≡ l.fn.g.z.ghost_name;

@@ -1,4 +1,5 @@
-use Rattle.std.proofs.Common.{sym, subst}
+use Rattle.zr_replicate.proofs.Turning.{ends-with, goes-on-with, stage-on}
+use Rattle.std.proofs.Common.{sym, subst, rules}
 use Rattle.zr_command.specs.declared.version.VersionName.{VersionName}
 use Rattle.zr_known.specs.Replication.{MayHoldStep}
 use Rattle.zr_replicate.specs.declared.settling.Newest.{Newest}
@@ -43,3 +44,9 @@ returns-clause-fewer g c =
     (step-rests pair known c.hold_step.new.known c.send.new.known now transfer _ holds arrived only c.requires.ready safe alone)
     (same-listings pair known c.hold_step.new.known c.send.new.known now transfer _ holds arrived only).source)
     (on-both _ _ result c.settle.ensures.safe (on-both _ _ result c.settle.ensures.alone c.settle.ensures.only))
+
+pub returns-in_err-send-clause-stage : goal.returns-in_err-send-clause-stage
+returns-in_err-send-clause-stage g c = let ended = ends-with _ _ _ _ _ _ c.in_ok-hold_step.ensures.stage c.in_err-send.ensures.stage in search rules
+
+pub returns-clause-stage : goal.returns-clause-stage
+returns-clause-stage g c = stage-on _ _ _ _ _ _ _ (goes-on-with _ _ _ _ _ _ c.in_ok-hold_step.ensures.stage c.in_ok-send.ensures.stage) c.settle.ensures.stage

@@ -1,0 +1,295 @@
+use Rattle.std.specs.Prelude.{⊤}
+use Rattle.std.proofs.Common.{◌≡◌, ◌∙◌, ◌⊎◌, ◌||◌, ℕ, ◌+◌, zero, suc, Bool, true, false, true≢false, List, [], ◌∷◌, ◌++◌, Option, Some, None, ap, arith, cond, filter, inl, inr, length, map, min, not, refl, subst, sym, zero-add}
+use Rattle.std.specs.List.{All, count_by, list_any}
+use Rattle.std.specs.Option.{option_map_or}
+use Rattle.std.proofs.lemmas.List.Sums.{sum_by-append}
+use Rattle.std.proofs.lemmas.List.Elements.{All-cons, All-head, All-nil, All-tail}
+use Rattle.zr_names.specs.declared.outcome.Outcome.{Outcome}
+use Rattle.zr_names.specs.declared.outcome.Outcome.TheVariants as outcome
+use Rattle.zr_names.specs.declared.unit.Work.{Work}
+use Rattle.zr_names.specs.declared.unit.Work.TheVariants as work
+use Rattle.zr_command.specs.declared.command.Answer.{Answer}
+use Rattle.zr_command.specs.declared.command.Answer.TheVariants as answer
+use Rattle.zr_command.specs.declared.command.Cmd.{Cmd}
+use Rattle.zr_command.specs.declared.command.Cmd.TheVariants as cmd
+use Rattle.zr_command.specs.declared.command.Reply.{Reply}
+use Rattle.zr_command.specs.declared.command.Reply.TheVariants as reply
+use Rattle.zr_command.specs.declared.version.VersionName.TheVariants.{Snap}
+use Rattle.zr_command.specs.declared.version.VersionRow.{VersionRow}
+use Rattle.zr_command.specs.Names.{same_text}
+use Rattle.zr_command.specs.Plain.{plain}
+use Rattle.zr_world.specs.declared.effects.Refusal.{Refusal}
+use Rattle.zr_world.specs.declared.pools.Dataset.{Dataset}
+use Rattle.zr_world.specs.declared.pools.Pools.{Pools}
+use Rattle.zr_world.specs.declared.pools.Version.{Version}
+use Rattle.zr_world.specs.Answering.{Acts, Answers, AnswersWords}
+use Rattle.zr_world.specs.Effect.{after_since, first_changed, go, reply_to, step, unless_refused, with_set, without}
+use Rattle.zr_world.specs.Lookup.{dataset_at, has_name, is_at}
+use Rattle.zr_world.specs.Reasons.{refusal_since}
+use Rattle.zr_world.specs.Rows.{row_of_version}
+use Rattle.std.specs.Cmp.Lexicographic.{nat_list_eq_equiv}
+use Rattle.zr_names.specs.declared.unit.Unit.{Unit}
+use Rattle.zr_jobs.specs.declared.job.JobSet.{JobSet}
+use Rattle.zr_jobs.specs.declared.job.RuleSpec.{RuleSpec}
+use Rattle.zr_jobs.specs.Jobs.{job_at, rules_of}
+use Rattle.zr_permit.specs.Keep.{doomed}
+use Rattle.zr_permit.specs.Result.{capped, is_failed_destroy}
+use Rattle.zr_permit.specs.Sight.{ActedBy, HasJustBegun, Sight, Went}
+use Rattle.zr_permit.specs.Transcript.{GoesOn, later_of, listed as last_listed, rows_told, Transcript, Turn}
+use Rattle.zr_prune.specs.Alone.{is_snap_among, PrunesAlone, rows_at, without_snaps}
+use Rattle.zr_prune.specs.Pruning.{HasGivenAll, IsPruned, IsPruning}
+use Rattle.zr_prune.proofs.Steps.{commands}
+
+-- a command that came whole has left the pools of the table, and its reply
+stepped : (before after : Pools) (command : Cmd) (given : Reply) → step before command ≡ go after given → (after ≡ after_since before before command) × (given ≡ reply_to before command)
+stepped before after command given e = choose (refusal_since before before command) e where
+  choose : (why : Option Refusal) → unless_refused why (after_since before before command) (reply_to before command) ≡ go after given → (after ≡ after_since before before command) × (given ≡ reply_to before command)
+  choose None e = (cc, cc)
+  choose (Some why) e = cc
+
+plain-versions : (given : Cmd) (path : List ℕ) → plain given ≡ cmd.Versions path → given ≡ cmd.Versions path
+plain-versions cmd.Sets path e = cc
+plain-versions (cmd.Versions p) path e = e
+plain-versions (cmd.Holds p name) path e = cc
+plain-versions (cmd.Hold kind job p name) path e = cc
+plain-versions (cmd.Release kind job p name) path e = cc
+plain-versions (cmd.Bookmark p version name) path e = cc
+plain-versions (cmd.DestroySnap p name) path e = cc
+plain-versions (cmd.DestroyMark p name) path e = cc
+plain-versions (cmd.Transfer transfer) path e = cc
+
+plain-destroy : (given : Cmd) (path name : List ℕ) → plain given ≡ cmd.DestroySnap path name → given ≡ cmd.DestroySnap path name
+plain-destroy cmd.Sets path name e = cc
+plain-destroy (cmd.Versions p) path name e = cc
+plain-destroy (cmd.Holds p n) path name e = cc
+plain-destroy (cmd.Hold kind job p n) path name e = cc
+plain-destroy (cmd.Release kind job p n) path name e = cc
+plain-destroy (cmd.Bookmark p version n) path name e = cc
+plain-destroy (cmd.DestroySnap p n) path name e = e
+plain-destroy (cmd.DestroyMark p n) path name e = cc
+plain-destroy (cmd.Transfer transfer) path name e = cc
+
+-- a listing that was done shows the rows of its moment, and leaves the pools
+listed : (before after : Pools) (path : List ℕ) (given : Reply) → AnswersWords (cmd.Versions path) before after (answer.Done given) → (after ≡ before) × (given ≡ reply.Versions (rows_at before path))
+listed before after path given (inl answers) = stepped before after (cmd.Versions path) given answers
+listed before after path given (inr (other, is_given, answers)) =
+    let same = plain-versions other path is_given.same_words in
+    let By : Cmd → Type 0 = λ c. Answers c before after (answer.Done given) in
+    stepped before after (cmd.Versions path) given (subst By same answers)
+
+-- a destroy that was done takes its snapshot
+destroyed : (before after : Pools) (path name : List ℕ) (given : Reply) → AnswersWords (cmd.DestroySnap path name) before after (answer.Done given) → after ≡ with_set before path (without (Snap name))
+destroyed before after path name given (inl answers) = (stepped before after (cmd.DestroySnap path name) given answers).0
+destroyed before after path name given (inr (other, is_given, answers)) =
+    let same = plain-destroy other path name is_given.same_words in
+    let By : Cmd → Type 0 = λ c. Answers c before after (answer.Done given) in
+    (stepped before after (cmd.DestroySnap path name) given (subst By same answers)).0
+
+-- the turn was done
+abbrev pub IsDone : Turn → Type 0
+IsDone turn = (given : Reply) × (turn.1 ≡ answer.Done given)
+
+-- the pools after some destroys one after another
+abbrev destroyed_all : Pools → List ℕ → List (List ℕ) → Pools
+destroyed_all pools path [] = pools
+destroyed_all pools path (name ∷ names) = destroyed_all (with_set pools path (without (Snap name))) path names
+
+-- a runner that tells its pools goes on telling them
+record IsTold (command : Cmd) (before : Pools) (mid : Option Pools) (given : Answer) : Type 0 where
+  pools : Pools
+  told : mid ≡ Some pools
+  acts : AnswersWords command before pools given
+
+mid-told : (command : Cmd) (before : Pools) (mid : Option Pools) (given : Answer) → Acts command (Some before) mid given → IsTold command before mid given
+mid-told command before None given acts = absurd acts
+mid-told command before (Some pools) given acts = record { pools = pools; told = refl; acts = acts }
+
+turn-of : (turn : Turn) (command : Cmd) (given : Reply) → turn.0 ≡ command → turn.1 ≡ answer.Done given → (before : Pools) (mid : Option Pools) → Acts turn.0 (Some before) mid turn.1 → Acts command (Some before) mid (answer.Done given)
+turn-of turn command given is done before mid acts =
+    let By : Cmd → Type 0 = λ c. Acts c (Some before) mid turn.1 in
+    let With : Answer → Type 0 = λ a. Acts command (Some before) mid a in
+    subst With done (subst By is acts)
+
+head-is : (command other : Cmd) (rest others : List Cmd) → command ∷ rest ≡ other ∷ others → (command ≡ other) × (rest ≡ others)
+head-is command other rest others e = (cc, cc)
+
+all-destroyed : (path : List ℕ) (names : List (List ℕ)) (turns : Transcript) (before after : Pools) → commands turns ≡ map (cmd.DestroySnap path) names → All IsDone turns → ActedBy turns (Some before) (Some after) → after ≡ destroyed_all before path names
+all-destroyed path [] [] before after are done acted = cc
+all-destroyed path [] (turn ∷ turns) before after are done acted = cc
+all-destroyed path (name ∷ names) [] before after are done acted = cc
+all-destroyed path (name ∷ names) (turn ∷ turns) before after are done (mid, acts, rest) =
+    let heads = head-is turn.0 (cmd.DestroySnap path name) (commands turns) (map (cmd.DestroySnap path) names) are in
+    let first = All-head IsDone turn turns done in
+    let now = mid-told (cmd.DestroySnap path name) before mid (answer.Done first.0) (turn-of turn (cmd.DestroySnap path name) first.0 heads.0 first.1 before mid acts) in
+    let From : Option Pools → Type 0 = λ pools. ActedBy turns pools (Some after) in
+    all-destroyed path names turns now.pools after heads.1 (All-tail IsDone turn turns done) (subst From now.told rest)
+    ∙ ap (λ (pools : Pools). destroyed_all pools path names) (destroyed before now.pools path name first.0 now.acts)
+
+first_changed-twice : (path : List ℕ) (change other : Dataset → Dataset) → ((set : Dataset) → (change set).path ≡ set.path) → (sets : List Dataset) → first_changed (is_at path) other (first_changed (is_at path) change sets) ≡ first_changed (is_at path) (λ set. other (change set)) sets
+first_changed-twice path change other keeps [] = refl
+first_changed-twice path change other keeps (set ∷ sets) = choose (is_at path set) refl (first_changed-twice path change other keeps sets) where
+  choose : (b : Bool) → is_at path set ≡ b → first_changed (is_at path) other (first_changed (is_at path) change sets) ≡ first_changed (is_at path) (λ set. other (change set)) sets → first_changed (is_at path) other (cond b (change set ∷ sets) (set ∷ first_changed (is_at path) change sets)) ≡ cond b (other (change set) ∷ sets) (set ∷ first_changed (is_at path) (λ set. other (change set)) sets)
+  choose true is rest =
+      let same : is_at path (change set) ≡ true = ap (λ (p : List ℕ). same_text p path) (keeps set) ∙ is in
+      ap (λ (b : Bool). cond b (other (change set) ∷ sets) (change set ∷ first_changed (is_at path) other sets)) same
+  choose false is rest =
+      ap (λ (b : Bool). cond b (other set ∷ first_changed (is_at path) change sets) (set ∷ first_changed (is_at path) other (first_changed (is_at path) change sets))) is
+      ∙ ap (λ (more : List Dataset). set ∷ more) rest
+
+first_changed-same : (path : List ℕ) (change other : Dataset → Dataset) → ((set : Dataset) → change set ≡ other set) → (sets : List Dataset) → first_changed (is_at path) change sets ≡ first_changed (is_at path) other sets
+first_changed-same path change other same [] = refl
+first_changed-same path change other same (set ∷ sets) = choose (is_at path set) (first_changed-same path change other same sets) where
+  choose : (b : Bool) → first_changed (is_at path) change sets ≡ first_changed (is_at path) other sets → cond b (change set ∷ sets) (set ∷ first_changed (is_at path) change sets) ≡ cond b (other set ∷ sets) (set ∷ first_changed (is_at path) other sets)
+  choose true rest = ap (λ (s : Dataset). s ∷ sets) (same set)
+  choose false rest = ap (λ (more : List Dataset). set ∷ more) rest
+
+keep-twice : (p q : Bool) (version : Version) (one other : List Version) → one ≡ other → cond (not q) (cond (not p) (version ∷ one) one) one ≡ cond (not (q || p)) (version ∷ other) other
+keep-twice p true version one other same = same
+keep-twice true false version one other same = same
+keep-twice false false version one other same = ap (λ (rest : List Version). version ∷ rest) same
+
+filter-cond : (p : Version → Bool) (b : Bool) (version : Version) (rest : List Version) → filter p (cond b (version ∷ rest) rest) ≡ cond b (cond (p version) (version ∷ filter p rest) (filter p rest)) (filter p rest)
+filter-cond p true version rest = refl
+filter-cond p false version rest = refl
+
+filter-twice : (p q : Version → Bool) (versions : List Version) → filter (λ v. not (p v)) (filter (λ v. not (q v)) versions) ≡ filter (λ v. not (q v || p v)) versions
+filter-twice p q [] = refl
+filter-twice p q (version ∷ versions) =
+    filter-cond (λ v. not (p v)) (not (q version)) version (filter (λ v. not (q v)) versions)
+    ∙ keep-twice (p version) (q version) version (filter (λ v. not (p v)) (filter (λ v. not (q v)) versions)) (filter (λ v. not (q v || p v)) versions) (filter-twice p q versions)
+
+without-more : (name : List ℕ) (names : List (List ℕ)) (set : Dataset) → without_snaps names (without (Snap name) set) ≡ without_snaps (name ∷ names) set
+without-more name names set =
+    ap (λ (versions : List Version). record set { versions = versions }) (filter-twice (is_snap_among names) (has_name (Snap name)) set.versions)
+
+with_set-same : (pools : Pools) (path : List ℕ) (change other : Dataset → Dataset) → ((set : Dataset) → change set ≡ other set) → with_set pools path change ≡ with_set pools path other
+with_set-same pools path change other same =
+    ap (λ (sets : List Dataset). record pools { sets = sets }) (first_changed-same path change other same pools.sets)
+
+with_set-twice : (pools : Pools) (path : List ℕ) (change other : Dataset → Dataset) → ((set : Dataset) → (change set).path ≡ set.path) → with_set (with_set pools path change) path other ≡ with_set pools path (λ set. other (change set))
+with_set-twice pools path change other keeps =
+    ap (λ (sets : List Dataset). record pools { sets = sets }) (first_changed-twice path change other keeps pools.sets)
+
+filter-none : (versions : List Version) → filter (λ v. not (is_snap_among [] v)) versions ≡ versions
+filter-none [] = refl
+filter-none (version ∷ versions) = ap (λ (rest : List Version). version ∷ rest) (filter-none versions)
+
+first_changed-none : (path : List ℕ) (change : Dataset → Dataset) → ((set : Dataset) → change set ≡ set) → (sets : List Dataset) → first_changed (is_at path) change sets ≡ sets
+first_changed-none path change same [] = refl
+first_changed-none path change same (set ∷ sets) = choose (is_at path set) (first_changed-none path change same sets) where
+  choose : (b : Bool) → first_changed (is_at path) change sets ≡ sets → cond b (change set ∷ sets) (set ∷ first_changed (is_at path) change sets) ≡ set ∷ sets
+  choose true rest = ap (λ (s : Dataset). s ∷ sets) (same set)
+  choose false rest = ap (λ (more : List Dataset). set ∷ more) rest
+
+-- destroys one after another take all their snapshots
+destroyed-are : (path : List ℕ) (names : List (List ℕ)) (pools : Pools) → destroyed_all pools path names ≡ with_set pools path (without_snaps names)
+destroyed-are path [] pools =
+    ap (λ (sets : List Dataset). record pools { sets = sets }) (sym (first_changed-none path (without_snaps []) (λ set. ap (λ (versions : List Version). record set { versions = versions }) (filter-none set.versions)) pools.sets))
+destroyed-are path (name ∷ names) pools =
+    destroyed-are path names (with_set pools path (without (Snap name)))
+    ∙ with_set-twice pools path (without (Snap name)) (without_snaps names) (λ set. refl)
+    ∙ with_set-same pools path (λ set. without_snaps names (without (Snap name) set)) (without_snaps (name ∷ names)) (without-more name names)
+
+-- a listing and then destroys, all of which were done, leave the dataset without their snapshots
+pub pruned : (path : List ℕ) (names : List (List ℕ)) (turns : Transcript) (before after : Pools) → commands turns ≡ cmd.Versions path ∷ map (cmd.DestroySnap path) names → All IsDone turns → ActedBy turns (Some before) (Some after) → after ≡ with_set before path (without_snaps names)
+pruned path names [] before after are done acted = cc
+pruned path names (turn ∷ turns) before after are done (mid, acts, rest) =
+    let heads = head-is turn.0 (cmd.Versions path) (commands turns) (map (cmd.DestroySnap path) names) are in
+    let first = All-head IsDone turn turns done in
+    let now = mid-told (cmd.Versions path) before mid (answer.Done first.0) (turn-of turn (cmd.Versions path) first.0 heads.0 first.1 before mid acts) in
+    let From : Option Pools → Type 0 = λ pools. ActedBy turns pools (Some after) in
+    let same = (listed before now.pools path first.0 now.acts).0 in
+    all-destroyed path names turns now.pools after heads.1 (All-tail IsDone turn turns done) (subst From now.told rest)
+    ∙ ap (λ (pools : Pools). destroyed_all pools path names) same ∙ destroyed-are path names before
+
+-- a prune unit goes on after a destroy that failed and after what was done
+done-or-failed : (own : List ℕ) (command : Cmd) (given : Answer) → GoesOn (work.PruneSource own) command given → is_failed_destroy command given ≡ false → (got : Reply) × (given ≡ answer.Done got)
+done-or-failed own command (answer.Done got) goes sound = (got, refl)
+done-or-failed own (cmd.DestroySnap path name) answer.Failed goes sound = cc
+done-or-failed own command answer.Failed goes sound = absurd goes
+done-or-failed own command (answer.Garbled line) goes sound = absurd goes
+done-or-failed own command answer.NoMemory goes sound = absurd goes
+
+abbrev failed_in : Turn → Bool
+failed_in turn = is_failed_destroy turn.0 turn.1
+
+abbrev Goes_in : Work → Turn → Type 0
+Goes_in unit_work turn = GoesOn unit_work turn.0 turn.1
+
+none-counted : (b : Bool) (rest : ℕ) → cond b 1 0 + rest ≡ 0 → (b ≡ false) × (rest ≡ 0)
+none-counted true rest e = absurd (omega (arith, e))
+none-counted false rest e = (refl, omega (arith, e))
+
+all-done : (own : List ℕ) (turns : Transcript) → All (Goes_in (work.PruneSource own)) turns → count_by failed_in turns ≡ 0 → All IsDone turns
+all-done own [] goes none = All-nil IsDone
+all-done own (turn ∷ turns) goes none =
+    let both = sym (sum_by-append (λ (t : Turn). cond (failed_in t) 1 0) (turn ∷ []) turns ∙ ap (λ (n : ℕ). n + count_by failed_in turns) (zero-add (cond (failed_in turn) 1 0))) ∙ none in
+    let parts = none-counted (failed_in turn) (count_by failed_in turns) both in
+    All-cons IsDone turn turns (done-or-failed own turn.0 turn.1 (All-head (Goes_in (work.PruneSource own)) turn turns goes) parts.0) (all-done own turns (All-tail (Goes_in (work.PruneSource own)) turn turns goes) parts.1)
+
+destroy-lists-nothing : (path name : List ℕ) (command : Cmd) (given : Answer) → command ≡ cmd.DestroySnap path name → rows_told path command given ≡ None
+destroy-lists-nothing path name command given is =
+    let Tells : Cmd → Type 0 = λ c. rows_told path c given ≡ None in
+    subst Tells (sym is) refl
+
+none-listed : (path : List ℕ) (names : List (List ℕ)) (turns : Transcript) → commands turns ≡ map (cmd.DestroySnap path) names → last_listed path turns ≡ None
+none-listed path [] [] are = refl
+none-listed path [] (turn ∷ turns) are = cc
+none-listed path (name ∷ names) [] are = cc
+none-listed path (name ∷ names) (turn ∷ turns) are =
+    let heads = head-is turn.0 (cmd.DestroySnap path name) (commands turns) (map (cmd.DestroySnap path) names) are in
+    ap (later_of (rows_told path turn.0 turn.1)) (none-listed path names turns heads.1) ∙ destroy-lists-nothing path name turn.0 turn.1 heads.0
+
+rows-itself : (path : List ℕ) (rows : List VersionRow) → rows_told path (cmd.Versions path) (answer.Done (reply.Versions rows)) ≡ Some rows
+rows-itself path rows = rw (nat_list_eq_equiv.refl path)
+
+-- the rows of the one listing are those of the dataset before
+rows-listed : (path : List ℕ) (names : List (List ℕ)) (turns : Transcript) (rows : List VersionRow) (before after : Pools) → commands turns ≡ cmd.Versions path ∷ map (cmd.DestroySnap path) names → All IsDone turns → ActedBy turns (Some before) (Some after) → last_listed path turns ≡ Some rows → rows ≡ rows_at before path
+rows-listed path names [] rows before after are done acted told = cc
+rows-listed path names (turn ∷ turns) rows before after are done (mid, acts, rest) told =
+    let heads = head-is turn.0 (cmd.Versions path) (commands turns) (map (cmd.DestroySnap path) names) are in
+    let first = All-head IsDone turn turns done in
+    let now = mid-told (cmd.Versions path) before mid (answer.Done first.0) (turn-of turn (cmd.Versions path) first.0 heads.0 first.1 before mid acts) in
+    let shows = (listed before now.pools path first.0 now.acts).1 in
+    let turn_is : turn ≡ (cmd.Versions path, answer.Done (reply.Versions (rows_at before path))) =
+    turn-same turn (cmd.Versions path) (answer.Done (reply.Versions (rows_at before path))) heads.0 (first.1 ∙ ap answer.Done shows) in
+    let by_turn : Turn → Option (List VersionRow) = λ t. rows_told path t.0 t.1 in
+    let only : last_listed path (turn ∷ turns) ≡ Some (rows_at before path) =
+    ap (later_of (rows_told path turn.0 turn.1)) (none-listed path names turns heads.1) ∙ ap by_turn turn_is ∙ rows-itself path (rows_at before path) in
+    some-same rows (rows_at before path) (sym told ∙ only)
+  where
+    turn-same : (turn : Turn) (command : Cmd) (given : Answer) → turn.0 ≡ command → turn.1 ≡ given → turn ≡ (command, given)
+    turn-same (c, a) command given is gives = ap (λ (x : Cmd). (x, a)) is ∙ ap (λ (y : Answer). (command, y)) gives
+
+    some-same : (one other : List VersionRow) → Some one ≡ Some other → one ≡ other
+    some-same one other e = cc
+
+same-path : (one other : List ℕ) → work.PruneSource one ≡ work.PruneSource other → one ≡ other
+same-path one other e = cc
+
+none-capped : (count : ℕ) → 0 ≡ capped count → count ≡ 0
+none-capped count e = omega (arith, e)
+
+-- a prune that has given all and of which no command failed has left its dataset without the doomed snapshots
+has-given-alone : (before now : Sight) → HasJustBegun before → Went before now → HasGivenAll now 0 → (path : List ℕ) (pools after : Pools) → before.unit.work ≡ work.PruneSource path → before.pools ≡ Some pools → now.pools ≡ Some after → after ≡ with_set pools path (without_snaps (doomed (rules_of (job_at before.jobs before.unit.job)) (rows_at pools path)))
+has-given-alone before now begun went given path pools after is told_before told_now =
+    let own = same-path given.path path (sym given.pruning.work_is ∙ ap (λ (u : Unit). u.work) went.same_unit ∙ is) in
+    let At : List ℕ → Type 0 = λ p. IsPruning now p given.names given.names in
+    let pruning = subst At own given.pruning in
+    let turns : now.turns ≡ went.more = went.turns_are ∙ ap (λ (ts : Transcript). ts ++ went.more) begun.no_turns in
+    let Works : Work → Type 0 = λ w. All (Goes_in w) now.turns in
+    let done = all-done path now.turns (subst Works pruning.work_is pruning.goes_on) (none-capped (count_by failed_in now.turns) given.busy_are) in
+    let From : Option Pools → Type 0 = λ p. ActedBy now.turns p (Some after) in
+    let To : Option Pools → Type 0 = λ p. ActedBy now.turns before.pools p in
+    let By : Transcript → Type 0 = λ ts. ActedBy ts before.pools now.pools in
+    let acted = subst From told_before (subst To told_now (subst By (sym turns) went.acted)) in
+    let rows = rows-listed path given.names now.turns pruning.rows pools after pruning.commands done acted pruning.told in
+    let rules_same : rules_of (job_at now.jobs now.unit.job) ≡ rules_of (job_at before.jobs before.unit.job) =
+    ap (λ (j : JobSet). rules_of (job_at j now.unit.job)) went.same_jobs ∙ ap (λ (u : Unit). rules_of (job_at before.jobs u.job)) went.same_unit in
+    pruned path given.names now.turns pools after pruning.commands done acted
+    ∙ ap (λ (names : List (List ℕ)). with_set pools path (without_snaps names)) (pruning.names_are ∙ ap (λ (r : List VersionRow). doomed (rules_of (job_at now.jobs now.unit.job)) r) rows ∙ ap (λ (rules : List RuleSpec). doomed rules (rows_at pools path)) rules_same)
+
+pub prunes-alone : (before now : Sight) (ended : Outcome) → HasJustBegun before → Went before now → IsPruned now ended → PrunesAlone before now ended
+prunes-alone before now (outcome.Pruned count busy) begun went pruned_is = λ none.
+    has-given-alone before now begun went (subst (λ (n : ℕ). HasGivenAll now n) none pruned_is)
+prunes-alone before now other begun went pruned_is = tt
