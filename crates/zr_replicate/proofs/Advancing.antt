@@ -151,7 +151,7 @@ last-newest : (rows : List VersionRow) (row : VersionRow) → is_snap row ≡ tr
 last-newest rows row snapshot = ap (find is_snap) (reverse-append rows (row ∷ [])) ∙ rw snapshot refl
 
 -- what has arrived may be settled
-pub may-settle : (pair : Pair) (known held sent : Known) (transfer : Transfer) (names : List (List ℕ)) → IsReady pair known → next_transfer pair known ≡ Some transfer → held ≡ record known { step_held = names } → HasArrived transfer held sent → MaySettle pair sent (newest_by transfer) (Snap transfer.to)
+pub may-settle : (pair : Pair) (known held sent : Known) (transfer : Transfer) (names : List (List ℕ)) → IsReady pair known → next_transfer pair known ≡ Some transfer → held ≡ record known { step_held = names } → HasArrived transfer held sent → MaySettle pair sent (newest_by transfer)
 may-settle pair known held sent transfer names ready next holds arrived =
     let parts = parts-of pair known ready in
     let sends = ready-sends pair known transfer ready next in
@@ -169,6 +169,7 @@ may-settle pair known held sent transfer names ready next holds arrived =
         holds = inl refl;
         no_partial = ap (λ (k : Known). k.receiving) arrived;
       };
+      version = Snap transfer.to;
       makes = record {
         row = sends.row;
         found = source-found sent parts.source.rows sends.row transfer.to source parts.source.in_list sends.among sends.named;

@@ -23,7 +23,7 @@ use Rattle.zr_jobs.specs.declared.pair.Pair.{Pair}
 use Rattle.zr_known.specs.Known.{is_among, is_own_kind, is_row_of, set_among, told_by, without_name}
 use Rattle.zr_known.specs.Replication.{MayDestroyMark, MayMark, MayReleaseLast}
 use Rattle.zr_replicate.specs.declared.settling.Newest.{Newest}
-use Rattle.zr_replicate.specs.Settling.{first_other, HasCursor, is_any_cursor, is_bookmark, IsAlone, IsOtherMark, IsOtherName, IsSafe, MaySettle}
+use Rattle.zr_replicate.specs.Settling.{first_other, HasCursor, is_any_cursor, is_bookmark, IsAlone, IsOtherMark, IsOtherName, IsSafe, SettlesFrom}
 use Rattle.zr_replicate.specs.Working.{IsMarked}
 use Rattle.zr_replicate.proofs.Lists.{all-filter, any-filter, any-of, filter-fewer, first-of, found-in, none-fails, passes-of}
 
@@ -91,7 +91,7 @@ marked-marks name marks row all =
     list_all-append is_bookmark marks (record row { name = Mark name; refs = 0 } ∷ []) ∙ ap (λ (b : Bool). b && true) all
 
 -- the newest snapshot has its cursor, where a mark has that name
-pub has-cursor : (pair : Pair) (known : Known) (newest : Newest) (version : VersionName) (name : List ℕ) → mark_kind name pair.job ≡ Cursor newest.guid → MaySettle pair known newest version → list_any (is_row_of (Mark name)) known.marks ≡ true → HasCursor pair known newest
+pub has-cursor : (pair : Pair) (known : Known) (newest : Newest) (version : VersionName) (name : List ℕ) → mark_kind name pair.job ≡ Cursor newest.guid → SettlesFrom pair known newest version → list_any (is_row_of (Mark name)) known.marks ≡ true → HasCursor pair known newest
 has-cursor pair known newest version name kind may any = record {
   last = may.last;
   is_newest = may.is_newest;
@@ -100,7 +100,7 @@ has-cursor pair known newest version name kind may any = record {
 }
 
 -- and once it was made
-pub made-cursor : (pair : Pair) (before now : Known) (newest : Newest) (version : VersionName) (name : List ℕ) → mark_kind name pair.job ≡ Cursor newest.guid → MaySettle pair before newest version → IsMarked version name before now → HasCursor pair now newest
+pub made-cursor : (pair : Pair) (before now : Known) (newest : Newest) (version : VersionName) (name : List ℕ) → mark_kind name pair.job ≡ Cursor newest.guid → SettlesFrom pair before newest version → IsMarked version name before now → HasCursor pair now newest
 made-cursor pair before now newest version name kind may marked =
     subst (λ (known : Known). HasCursor pair known newest) (sym marked.known_is) (record {
       last = may.last;

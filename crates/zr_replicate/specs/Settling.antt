@@ -14,7 +14,7 @@ use Rattle.zr_known.specs.declared.known.Known.{Known}
 use Rattle.zr_jobs.specs.declared.pair.Pair.{Pair}
 use Rattle.zr_known.specs.declared.known.Receiving.TheVariants.{Nothing}
 use Rattle.zr_known.specs.Known.{is_among, is_row_of}
-use Rattle.zr_known.specs.Deciding.{MakesCursor}
+use Rattle.zr_known.specs.Deciding.{cursor_source, MakesCursor}
 use Rattle.zr_known.specs.Replication.{HoldsKnown, IsSettled, newest_known}
 use Rattle.zr_replicate.specs.declared.settling.Newest.{Newest}
 
@@ -29,10 +29,19 @@ pub record IsNewest (known : Known) (newest : Newest) (last : VersionRow) : Type
 abbrev pub is_bookmark : VersionRow → Bool
 is_bookmark row = not (is_snap row)
 
--- the newest snapshot may be settled: its cursor can be made from this version on the source
-pub record MaySettle (pair : Pair) (known : Known) (newest : Newest) (version : VersionName) : Type 0 where
+-- the newest snapshot may be settled: its cursor can be made from a version on the source
+pub record MaySettle (pair : Pair) (known : Known) (newest : Newest) : Type 0 where
   pub last : VersionRow
   pub is_newest : IsNewest known newest last
+  pub version : VersionName
+  pub makes : MakesCursor pair known newest.guid version
+  pub bookmarks : list_all is_bookmark known.marks ≡ true
+
+-- the same where this is what its cursor is made from: of several snapshots with its guid, the first in the listing
+pub record SettlesFrom (pair : Pair) (known : Known) (newest : Newest) (version : VersionName) : Type 0 where
+  pub last : VersionRow
+  pub is_newest : IsNewest known newest last
+  pub first : cursor_source pair known newest.guid ≡ Some version
   pub makes : MakesCursor pair known newest.guid version
   pub bookmarks : list_all is_bookmark known.marks ≡ true
 

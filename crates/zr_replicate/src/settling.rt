@@ -7,7 +7,7 @@ ghost use Rattle.zr_names.specs.Marks.{cursor_text, mark_kind};
 ghost use Rattle.zr_names.specs.declared.marks.MarkKind.TheVariants.{Cursor};
 ghost use Rattle.zr_command.specs.Kinds.{is_cursor_of, kind_in};
 ghost use Rattle.zr_known.specs.Known.{is_among};
-ghost use Rattle.zr_replicate.specs.Settling.{first_other, HasCursor, is_any_cursor, is_bookmark, IsAlone, IsOtherMark, IsOtherName, IsSafe, MaySettle, OnlyMarks};
+ghost use Rattle.zr_replicate.specs.Settling.{first_other, HasCursor, is_any_cursor, is_bookmark, IsAlone, IsOtherMark, IsOtherName, IsSafe, OnlyMarks, SettlesFrom};
 ghost use Rattle.zr_permit.specs.Sight.{sight};
 ghost use Rattle.zr_replicate.specs.Working.{AtWork, Stage};
 ghost use Rattle.zr_command.specs.Names.{same_text};
@@ -46,7 +46,7 @@ fn make_missing_cursor<Z: Zfs>(
     version: &VersionName,
 ) -> Result<(), Outcome>
     requires at_work { AtWork pair.now known.old (sight Z.Zfs g.old) }
-    requires may { MaySettle pair.now known.old newest.now version.now }
+    requires may { SettlesFrom pair.now known.old newest.now version.now }
     ensures stage { Stage pair.now (sight Z.Zfs g.old) (sight Z.Zfs g.new) known.new result }
     ensures cursor { OnOk result (HasCursor pair.now known.new newest.now) }
     ensures only { OnOk result (known.new ≡ record known.old { marks = known.new.marks }) }
@@ -251,7 +251,7 @@ pub(crate) fn settle<Z: Zfs>(
     version: &VersionName,
 ) -> Result<(), Outcome>
     requires at_work { AtWork pair.now known.old (sight Z.Zfs g.old) }
-    requires may { MaySettle pair.now known.old newest.now version.now }
+    requires may { SettlesFrom pair.now known.old newest.now version.now }
     ensures stage { Stage pair.now (sight Z.Zfs g.old) (sight Z.Zfs g.new) known.new result }
     ensures safe { OnOk result (IsSafe pair.now known.new newest.now) }
     ensures alone { OnOk result (IsAlone pair.now known.new newest.now) }

@@ -1,12 +1,14 @@
 //! The steps of a plan, one after another.
 
-ghost use Rattle.std.specs.Prelude.{◌≡◌, ◌<◌, IfOk, OnOk, Some};
+ghost use Rattle.std.specs.Prelude.{◌≡◌, ◌<◌, IfOk, MatchOption, OnOk, Some};
+ghost use Rattle.zr_known.specs.Deciding.{cursor_source, MakesCursor};
 ghost use Rattle.zr_known.specs.Replication.{next_transfer, plan_known};
 ghost use Rattle.zr_plan.specs.declared.target.Planned.TheVariants.{UpToDate};
 ghost use Rattle.zr_replicate.specs.Stepping.{IsAtRest, IsReady, IsUntouched, newest_by, SameListings, step_count};
 ghost use Rattle.zr_permit.specs.Sight.{sight};
+ghost use Rattle.zr_replicate.specs.Settling.{IsAlone, IsSafe, MaySettle, OnlyMarks};
 ghost use Rattle.zr_replicate.specs.Working.{AtWork, Stage};
-ghost use Rattle.zr_command.specs.declared.version.VersionName.TheVariants.{Snap};
+ghost use Rattle.zr_command.specs.declared.version.VersionName.{VersionName};
 
 use crate::settling::{Newest, settle};
 use crate::stages::{hold_step, send};
@@ -18,16 +20,51 @@ use zr_names::{Outcome, Same};
 use zr_permit::Guarded;
 use zr_world::Zfs;
 
-/// What a transfer makes the newest snapshot of its target, and the version of it on the source.
-fn arriving(transfer: &Transfer) -> Result<(Newest, VersionName), AllocError>
-    ensures newest { IfOk result (λ made. made.0 ≡ newest_by transfer.now) }
-    ensures version { IfOk result (λ made. made.1 ≡ Snap transfer.now.to) }
+/// What a transfer makes the newest snapshot of its target.
+fn arriving(transfer: &Transfer) -> Result<Newest, AllocError>
+    ensures newest { IfOk result (λ newest. newest ≡ newest_by transfer.now) }
 {
-    let newest = Newest {
+    Ok(Newest {
         name: transfer.to.same()?,
         guid: transfer.guid,
-    };
-    Ok((newest, VersionName::Snap(transfer.to.same()?)))
+    })
+}
+
+/// What the cursor of the newest snapshot is made from.
+fn cursor_maker(known: &Known, pair: &Pair, newest: &Newest) -> Result<Option<VersionName>, AllocError>
+    ensures first { IfOk result (λ maker. maker ≡ cursor_source pair.now known.now newest.now.guid) }
+    ensures makes { IfOk result (λ maker. MatchOption maker
+        ((version : VersionName) → MakesCursor pair.now known.now newest.now.guid version → ⊥)
+        (λ version. MakesCursor pair.now known.now newest.now.guid version)) }
+{
+    match known.cursor_source(pair, newest.guid) {
+        Some(version) => Ok(Some(version.same()?)),
+        None => Ok(None),
+    }
+}
+
+/// Settles what has arrived. Where several source snapshots have its guid, its cursor is made from the first in the listing,
+/// whichever of them was sent.
+fn settle_arrived<Z: Zfs>(
+    alloc: Global,
+    g: &mut Guarded<'_, Z>,
+    pair: &Pair,
+    known: &mut Known,
+    newest: &Newest,
+) -> Result<(), Outcome>
+    requires at_work { AtWork pair.now known.old (sight Z.Zfs g.old) }
+    requires may { MaySettle pair.now known.old newest.now }
+    ensures stage { Stage pair.now (sight Z.Zfs g.old) (sight Z.Zfs g.new) known.new result }
+    ensures safe { OnOk result (IsSafe pair.now known.new newest.now) }
+    ensures alone { OnOk result (IsAlone pair.now known.new newest.now) }
+    ensures only { OnOk result (OnlyMarks known.old known.new) }
+    ensures runner { g.new.z.ghost_name ≡ g.old.z.ghost_name }
+{
+    match cursor_maker(known, pair, newest) {
+        Ok(Some(version)) => settle(alloc, g, pair, known, newest, &version),
+        Ok(None) => unreachable!(),
+        Err(_) => Err(g.out_of_memory()),
+    }
 }
 
 /// One step: its snapshot is held, sent, and settled.
@@ -47,12 +84,12 @@ fn step<Z: Zfs>(
     ensures fewer { OnOk result (IsAtRest pair.now known.old → step_count (plan_known pair.now known.new) < step_count (plan_known pair.now known.old)) }
     ensures runner { g.new.z.ghost_name ≡ g.old.z.ghost_name }
 {
-    let Ok((newest, version)) = arriving(&transfer) else {
+    let Ok(newest) = arriving(&transfer) else {
         return Err(g.out_of_memory());
     };
     hold_step(alloc, g, pair, known, &newest.name)?;
     send(alloc, g, pair, known, transfer)?;
-    settle(alloc, g, pair, known, &newest, &version)
+    settle_arrived(alloc, g, pair, known, &newest)
 }
 
 /// The first step, onto a target that is not there yet.
