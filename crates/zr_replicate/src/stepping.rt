@@ -31,7 +31,11 @@ fn arriving(transfer: &Transfer) -> Result<Newest, AllocError>
 }
 
 /// What the cursor of the newest snapshot is made from.
-fn cursor_maker(known: &Known, pair: &Pair, newest: &Newest) -> Result<Option<VersionName>, AllocError>
+fn cursor_maker(
+    known: &Known,
+    pair: &Pair,
+    newest: &Newest,
+) -> Result<Option<VersionName>, AllocError>
     ensures first { IfOk result (λ maker. maker ≡ cursor_source pair.now known.now newest.now.guid) }
     ensures makes { IfOk result (λ maker. MatchOption maker
         ((version : VersionName) → MakesCursor pair.now known.now newest.now.guid version → ⊥)

@@ -1,4 +1,3 @@
-use Rattle.std.proofs.Common.{refl}
 use Rattle.zr_permit.specs.declared.told.Told.TheVariants as told
 use Rattle.zr_replicate.proofs.Turning.{ended-turn, failed-undone, garbled-undone, knows-more, short-undone}
 use Rattle.zr_replicate.proofs.giving.give.Goals as goal

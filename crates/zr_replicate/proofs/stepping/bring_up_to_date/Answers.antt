@@ -1,4 +1,4 @@
-use Rattle.zr_replicate.proofs.Turning.{ends-with, goes-on-with, stage-on}
+use Rattle.zr_replicate.proofs.Turning.{stage-on}
 use Rattle.zr_replicate.proofs.stepping.bring_up_to_date.Goals as goal
 
 pub returns-clause-stage : goal.returns-clause-stage

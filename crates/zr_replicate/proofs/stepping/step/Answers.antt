@@ -3,7 +3,6 @@ use Rattle.std.proofs.Common.{sym, subst, rules}
 use Rattle.zr_known.specs.Replication.{MayHoldStep}
 use Rattle.zr_replicate.specs.declared.settling.Newest.{Newest}
 use Rattle.zr_replicate.specs.Settling.{IsAlone, IsSafe, MaySettle}
-use Rattle.zr_replicate.specs.Stepping.{newest_by}
 use Rattle.zr_replicate.proofs.Advancing.{may-hold, may-settle, same-listings, step-rests, steps-fall}
 use Rattle.zr_replicate.proofs.Lists.{on-both, on-ok}
 use Rattle.zr_replicate.proofs.stepping.step.Goals as goal
