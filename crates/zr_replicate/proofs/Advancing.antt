@@ -27,9 +27,9 @@ use Rattle.zr_known.specs.Known.{arrival, is_among, is_row_of, presence_after, s
 use Rattle.zr_known.specs.Replication.{HoldsKnown, is_there, MayHoldStep, newest_known, next_transfer, plan_known, transfer_of_plan, transfer_of_step}
 use Rattle.zr_known.specs.Straight.{has_known_holds, version_holds_known}
 use Rattle.zr_known.proofs.Decisions.{found_in}
-use Rattle.zr_replicate.specs.Settling.{is_bookmark, IsAlone, IsSafe, MaySettle, OnlyMarks}
-use Rattle.zr_replicate.specs.Stepping.{HasSource, IsAtRest, IsReady, IsUntouched, newest_by, RestsOn, SameListings, step_count}
-use Rattle.zr_replicate.specs.Working.{HasArrived}
+use Rattle.zr_replicate.specs.Settlement.{is_bookmark, IsAlone, IsSafe, MaySettle, OnlyMarks}
+use Rattle.zr_replicate.specs.Steps.{HasSource, IsAtRest, IsReady, IsUntouched, newest_by, RestsOn, SameListings, step_count}
+use Rattle.zr_replicate.specs.Progress.{HasArrived}
 use Rattle.zr_replicate.proofs.Later.{fewer-steps}
 use Rattle.zr_replicate.proofs.Lists.{passes-of}
 use Rattle.zr_replicate.proofs.Planning.{source-some}

@@ -1,7 +1,8 @@
-use Rattle.std.proofs.Common.{◌≡◌, ◌≢◌, ◌∙◌, ◌<◌, ◌+◌, ◌&&◌, ◌||◌, ℕ, Bool, true, false, not, List, [], ◌∷◌, Option, Some, None, find, get_or, length, take, refl, ap, sym, subst}
+use Rattle.std.proofs.Common.{◌≡◌, ◌≢◌, ◌∙◌, ◌<◌, ◌+◌, ◌&&◌, ◌||◌, ℕ, Bool, true, false, true≢false, not, List, [], ◌∷◌, Option, Some, None, find, get_or, is_some, length, take, refl, ap, sym, subst}
 use Rattle.std.specs.List.{list_all, list_any}
 use Rattle.std.specs.Option.{option_map_or}
 use Rattle.std.specs.Cmp.Lexicographic.{bytes_decides}
+use Rattle.std.proofs.lemmas.List.Elements.{All-push}
 use Rattle.std.proofs.lemmas.List.Folds.{list_all_more, list_any-append}
 use Rattle.zr_names.specs.Marks.{tag_text}
 use Rattle.zr_names.specs.declared.marks.TagKind.TheVariants.{Last, Step}
@@ -25,7 +26,10 @@ use Rattle.zr_known.specs.Straight.{has_known_holds, version_holds_known}
 use Rattle.zr_known.proofs.Knowing.{target-listed}
 use Rattle.zr_replicate.specs.declared.listing.Side.{Side}
 use Rattle.zr_replicate.specs.declared.listing.Side.TheVariants.{Source, Target}
-use Rattle.zr_replicate.specs.Listing.{asked_at, HasListedSets, IsShown, KnowsMoreHolds, OnlyHolds, path_at, ShowsAt}
+use Rattle.zr_known.specs.Straight.{has_listed_holds, is_listing}
+use Rattle.zr_permit.specs.Transcript.{Turn}
+use Rattle.zr_replicate.specs.Listing.{asked_at, HasAskedAll, HasListedAll, HasListedSets, HasListedSource, HasListedTarget, HasOnlyListed, IsShown, KnowsMoreHolds, OnlyHolds, OnlyLists, path_at, ShowsAt}
+use Rattle.zr_replicate.specs.Progress.{HasTold, Progress}
 use Rattle.zr_replicate.proofs.Lists.{all-weaker, any-filter, any-of, find-some}
 use Rattle.zr_replicate.proofs.Marking.{among-set, differ, equal}
 
@@ -83,6 +87,16 @@ listed-target pair knew known sets shows apart told = by told.given told.shape t
         presence = sets.presence;
         none_absent = λ absent. absurd (shown-there pair knew sets shows absent);
       })
+  by (reply.Sets rows) shape is = elim shape [ ]
+  by (reply.Holds tags) shape is = elim shape [ ]
+  by reply.Nothing shape is = elim shape [ ]
+
+-- a target that was listed was listed
+pub target-told : (pair : Pair) (knew known : Known) → pair.target ≢ pair.source → Tells pair (cmd.Versions pair.target) knew known → HasListedTarget pair known
+target-told pair knew known apart told = by told.given told.shape told.known_is where
+  by : (given : Reply) → Fits (cmd.Versions pair.target) (Done given) → known ≡ told_by pair (cmd.Versions pair.target) (Done given) knew → HasListedTarget pair known
+  by (reply.Versions rows) shape is =
+      subst (HasListedTarget pair) (sym (is ∙ target-listed pair rows knew apart)) (λ shows. refl)
   by (reply.Sets rows) shape is = elim shape [ ]
   by (reply.Holds tags) shape is = elim shape [ ]
   by reply.Nothing shape is = elim shape [ ]
@@ -175,3 +189,43 @@ asked-more side before now rows place row inside more all is known =
     list_all_more (has_known_holds (asked_at side now)) rows place row inside
     ∙ ap (λ (b : Bool). b && has_known_holds (asked_at side now) (get_or rows place row)) (all-weaker (has_known_holds (asked_at side before)) (has_known_holds (asked_at side now)) (λ x e. known-more side before now x more e) (take place rows) all)
     ∙ ap (has_known_holds (asked_at side now)) (sym is) ∙ known
+
+-- a listing more
+pub lists-on : (pair : Pair) (command : Cmd) (before now : Progress) → is_listing command ≡ true → HasOnlyListed before → HasTold pair command before now → HasOnlyListed now
+lists-on pair command before now is lists told =
+    subst OnlyLists (sym told.turns_are) (All-push (λ (turn : Turn). is_listing turn.0 ≡ true) before.unit.turns (command, Done told.reply) lists is)
+
+-- all was listed: the sides, and then the holds of each
+pub listed-all : (pair : Pair) (listed held now : Known) → HasListedSets pair listed → HasListedSource listed → HasListedTarget pair listed → KnowsMoreHolds Source listed held → HasAskedAll Source held → KnowsMoreHolds Target held now → HasAskedAll Target now → HasListedAll pair now
+listed-all pair listed held now sets source target more asked more' asked' =
+    subst (HasListedAll pair) (sym same) (record {
+      listed = ap (λ (b : Bool). b && on_target listed.sets) of_source ∙ ap on_target sets.are_listed ∙ of_target (list_any shows sets.sets) refl;
+      sets = record { sets = sets.sets; are_listed = sets.are_listed; presence = sets.presence; none_absent = sets.none_absent };
+      source = record { source = source.source; source_is = source.source_is; in_list = source.in_list };
+    })
+  where
+    same : now ≡ record listed { step_held = held.step_held; source_holds = held.source_holds; last_held = now.last_held; target_holds = now.target_holds }
+    same = more'.only ∙ ap (λ (k : Known). record k { last_held = now.last_held; target_holds = now.target_holds }) more.only
+
+    shows : SetRow → Bool
+    shows row = same_text row.path pair.target
+
+    on_target : Option (List SetRow) → Bool
+    on_target sets = option_map_or (λ sets. not (list_any shows sets) || has_listed_holds now.target_holds listed.listed) sets false
+
+    of_source : has_listed_holds held.source_holds listed.source ≡ true
+    of_source =
+        ap (has_listed_holds held.source_holds) source.source_is
+        ∙ sym (ap (λ (o : Option (List VersionRow)). list_all (has_known_holds held.source_holds) (option_map_or (λ rows. rows) o [])) (ap (λ (k : Known). k.source) more.only ∙ source.source_is))
+        ∙ asked
+
+    of_listing : (listing : Option (List VersionRow)) → is_some listing ≡ true → list_all (has_known_holds now.target_holds) (option_map_or (λ rows. rows) listing []) ≡ true → has_listed_holds now.target_holds listing ≡ true
+    of_listing None some all = absurd (true≢false (sym some))
+    of_listing (Some rows) some all = all
+
+    of_target : (b : Bool) → list_any shows sets.sets ≡ b → (not (list_any shows sets.sets) || has_listed_holds now.target_holds listed.listed) ≡ true
+    of_target false is = rw is refl
+    of_target true is =
+        rw is (of_listing listed.listed
+        (target (ap (λ (o : Option (List SetRow)). option_map_or (λ sets. list_any shows sets) o false) sets.are_listed ∙ is))
+        (sym (ap (λ (k : Known). list_all (has_known_holds now.target_holds) (option_map_or (λ rows. rows) k.listed [])) same) ∙ asked'))

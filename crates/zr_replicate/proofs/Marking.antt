@@ -22,9 +22,9 @@ use Rattle.zr_known.specs.declared.known.Known.{Known}
 use Rattle.zr_jobs.specs.declared.pair.Pair.{Pair}
 use Rattle.zr_known.specs.Known.{is_among, is_own_kind, is_row_of, set_among, told_by, without_name}
 use Rattle.zr_known.specs.Replication.{MayDestroyMark, MayMark, MayReleaseLast}
-use Rattle.zr_replicate.specs.declared.settling.Newest.{Newest}
-use Rattle.zr_replicate.specs.Settling.{first_other, HasCursor, is_any_cursor, is_bookmark, IsAlone, IsOtherMark, IsOtherName, IsSafe, SettlesFrom}
-use Rattle.zr_replicate.specs.Working.{IsMarked}
+use Rattle.zr_replicate.specs.declared.settlement.Newest.{Newest}
+use Rattle.zr_replicate.specs.Settlement.{first_other, HasCursor, is_any_cursor, is_bookmark, IsAlone, IsOtherMark, IsOtherName, IsSafe, SettlesFrom}
+use Rattle.zr_replicate.specs.Progress.{IsMarked}
 use Rattle.zr_replicate.proofs.Lists.{all-filter, any-filter, any-of, filter-fewer, first-of, found-in, none-fails, passes-of}
 
 pub equal : (text : List ℕ) → same_text text text ≡ true

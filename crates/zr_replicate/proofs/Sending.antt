@@ -20,9 +20,9 @@ use Rattle.zr_known.specs.declared.known.Presence.{Presence}
 use Rattle.zr_known.specs.declared.known.Presence.TheVariants.{Absent, There, Unlisted}
 use Rattle.zr_known.specs.declared.known.Receiving.TheVariants.{Nothing}
 use Rattle.zr_known.specs.Replication.{is_there, newest_known, next_transfer, plan_between, plan_known, planned_onto, transfer_of_plan, transfer_of_step}
-use Rattle.zr_replicate.specs.declared.settling.Newest.{Newest}
-use Rattle.zr_replicate.specs.Settling.{is_bookmark}
-use Rattle.zr_replicate.specs.Stepping.{IsUntouched, RestsOn}
+use Rattle.zr_replicate.specs.declared.settlement.Newest.{Newest}
+use Rattle.zr_replicate.specs.Settlement.{is_bookmark}
+use Rattle.zr_replicate.specs.Steps.{IsUntouched, RestsOn}
 use Rattle.zr_replicate.proofs.Lists.{found-in, in-filter, passes-of}
 use Rattle.zr_replicate.proofs.Planning.{cursor-found, plan-first, plan-onto, source-some}
 

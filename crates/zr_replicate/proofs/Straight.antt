@@ -17,8 +17,8 @@ use Rattle.zr_known.specs.Known.{is_among}
 use Rattle.zr_known.specs.Replication.{is_there, newest_known}
 use Rattle.zr_known.specs.Straight.{has_known_holds, has_listed, has_listed_holds, has_listed_target, has_snapshot, is_absent, is_alone, is_at_rest, is_none_receiving, is_straight, is_untouched, rests_on}
 use Rattle.zr_replicate.specs.Listing.{HasListedAll}
-use Rattle.zr_replicate.specs.Settling.{is_bookmark}
-use Rattle.zr_replicate.specs.Stepping.{HasSource, IsAtRest, IsReady}
+use Rattle.zr_replicate.specs.Settlement.{is_bookmark}
+use Rattle.zr_replicate.specs.Steps.{HasSource, IsAtRest, IsReady}
 use Rattle.zr_replicate.proofs.Lists.{all-weaker}
 
 both : (a b : Bool) → (a && b) ≡ true → (a ≡ true) × (b ≡ true)

@@ -1,5 +1,5 @@
 pub mod Listing
-pub mod Replicating
-pub mod Settling
-pub mod Stepping
-pub mod Working
+pub mod Outcomes
+pub mod Progress
+pub mod Settlement
+pub mod Steps

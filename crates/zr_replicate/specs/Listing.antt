@@ -12,12 +12,16 @@ use Rattle.zr_known.specs.Known.{is_among, presence_by}
 use Rattle.zr_known.specs.Replication.{Shows, ShowsSet}
 use Rattle.zr_known.specs.Straight.{has_known_holds, has_listed, is_listing}
 use Rattle.zr_permit.specs.Transcript.{Transcript}
+use Rattle.zr_replicate.specs.Progress.{Progress}
 use Rattle.zr_replicate.specs.declared.listing.Side.{Side}
 use Rattle.zr_replicate.specs.declared.listing.Side.TheVariants.{Source, Target}
 
 -- nothing was given but listings
 abbrev pub OnlyLists : Transcript → Type 0
 OnlyLists turns = All (λ turn. is_listing turn.0 ≡ true) turns
+
+abbrev pub HasOnlyListed : Progress → Type 0
+HasOnlyListed now = OnlyLists now.unit.turns
 
 -- the dataset of a side, its last listing, and the snapshots whose holds were asked for
 abbrev pub path_at : Side → Pair → List ℕ

@@ -1,7 +1,0 @@
-use Rattle.zr_replicate.proofs.Listed.{listed-sets}
-use Rattle.zr_replicate.proofs.Lists.{on-ok}
-use Rattle.zr_replicate.proofs.listing.list_sets.Goals as goal
-
-pub returns-clause-sets : goal.returns-clause-sets
-returns-clause-sets g c =
-    on-ok _ _ c.give.result (λ told. listed-sets c.args.pair.now c.args.known.now c.give.new.known told.reply c.requires.fresh told.shape told.known_is) c.give.ensures.told

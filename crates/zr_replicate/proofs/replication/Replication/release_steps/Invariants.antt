@@ -1,0 +1,15 @@
+use Rattle.std.proofs.Common.{◌≡◌, length}
+use Rattle.zr_replicate.specs.Settlement.{IsSafe}
+use Rattle.zr_replicate.specs.Progress.{GoesOnWith, progress}
+use Rattle.zr_replicate.proofs.replication.Replication.release_steps.Given as goal
+
+-- the newest snapshot is safe, and only step holds have gone
+abbrev pub invariant-loop-name : goal.invariant-loop-name
+invariant-loop-name g l = record {
+  stage : GoesOnWith l.pair (progress g.Z.Zfs l.fn.self) (progress g.Z.Zfs l.self);
+  safe : IsSafe l.pair l.self.known.now l.newest;
+  only : l.self.known.now ≡ record l.fn.self.known.now { step_held = l.self.known.now.step_held };
+}
+
+abbrev pub decreases-loop-name : goal.decreases-loop-name
+decreases-loop-name g l = length l.self.known.now.step_held

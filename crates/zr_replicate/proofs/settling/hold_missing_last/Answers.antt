@@ -1,7 +1,0 @@
-use Rattle.zr_replicate.proofs.Lists.{on-ok}
-use Rattle.zr_replicate.proofs.Marking.{held-safe}
-use Rattle.zr_replicate.proofs.settling.hold_missing_last.Goals as goal
-
-pub returns-else-is_last_held-clause-safe : goal.returns-else-is_last_held-clause-safe
-returns-else-is_last_held-clause-safe g c =
-    on-ok _ _ c.hold_last.result (held-safe c.args.pair.now c.args.known.now c.hold_last.new.known c.args.newest.now c.requires.may) c.hold_last.ensures.known
