@@ -36,8 +36,8 @@ found-first name (Some rows) marks =
     ∙ ap (λ (o : Option VersionRow). option_or o (find (is_row_of name) marks)) (find-filter (is_row_of name) is_snap rows)
 
 -- a bookmark is made from the first listed snapshot of a name, else from the first mark of it
-pub found_in : (name : VersionName) (known : Known) → source_row name known ≡ option_or (find (λ row. is_snap row && is_row_of name row) (option_map_or (λ rows. rows) known.source [])) (find (is_row_of name) known.marks)
-found_in name known = found-first name known.source known.marks
+pub found_in : (name : VersionName) (known : Known) → source_row name known ≡ option_or (find (λ row. is_snap row && is_row_of name row) (option_map_or (λ rows. rows) known.source.listing [])) (find (is_row_of name) known.marks)
+found_in name known = found-first name known.source.listing known.marks
 
 both : (a b : Bool) → (a && b) ≡ true → (a ≡ true) × (b ≡ true)
 both true true e = (refl, refl)
@@ -87,32 +87,32 @@ row-listed test listing rows row is among pass =
     subst (λ (o : Option (List VersionRow)). list_any test (option_map_or (λ rows. rows) o []) ≡ true) (sym is) (list_any-from_Any test rows (among.0, row, among.1, among.2, pass))
 
 -- a source snapshot is listed, and its holds are known, by the test
-lists-holds-test : (known : Known) (name : List ℕ) → Decides (list_any (λ row. is_row_of (Snap name) row && ((row.refs == 0) || is_among known.source_holds name)) (option_map_or (λ rows. rows) known.source [])) (ListsHolds known name)
+lists-holds-test : (known : Known) (name : List ℕ) → Decides (list_any (λ row. is_row_of (Snap name) row && ((row.refs == 0) || is_among known.source.asked name)) (option_map_or (λ rows. rows) known.source.listing [])) (ListsHolds known name)
 lists-holds-test known name = (to, from) where
   test : VersionRow → Bool
-  test row = is_row_of (Snap name) row && ((row.refs == 0) || is_among known.source_holds name)
+  test row = is_row_of (Snap name) row && ((row.refs == 0) || is_among known.source.asked name)
 
-  to : list_any test (option_map_or (λ rows. rows) known.source []) ≡ true → ListsHolds known name
+  to : list_any test (option_map_or (λ rows. rows) known.source.listing []) ≡ true → ListsHolds known name
   to e =
-      let found = listed-row test known.source e in
-      let passes = both (is_row_of (Snap name) found.2) ((found.2.refs == 0) || is_among known.source_holds name) found.4 in
+      let found = listed-row test known.source.listing e in
+      let passes = both (is_row_of (Snap name) found.2) ((found.2.refs == 0) || is_among known.source.asked name) found.4 in
       record {
         row = found.2;
         listed = record { rows = found.0; are_listed = found.1; among = found.3; named = named (Snap name) found.2.name passes.0 };
-        holds = (holds-known found.2 known.source_holds name).0 passes.1;
+        holds = (holds-known found.2 known.source.asked name).0 passes.1;
       }
 
-  from : ListsHolds known name → list_any test (option_map_or (λ rows. rows) known.source []) ≡ true
-  from h = row-listed test known.source h.listed.rows h.row h.listed.are_listed h.listed.among (passes h) where
+  from : ListsHolds known name → list_any test (option_map_or (λ rows. rows) known.source.listing []) ≡ true
+  from h = row-listed test known.source.listing h.listed.rows h.row h.listed.are_listed h.listed.among (passes h) where
     passes : (h : ListsHolds known name) → test h.row ≡ true
-    passes h = rw (subst (λ (v : VersionName). same_name (Snap name) v ≡ true) (sym h.listed.named) (names-itself (Snap name)), (holds-known h.row known.source_holds name).1 h.holds) refl
+    passes h = rw (subst (λ (v : VersionName). same_name (Snap name) v ≡ true) (sym h.listed.named) (names-itself (Snap name)), (holds-known h.row known.source.asked name).1 h.holds) refl
 
-pub lists-holds : (known : Known) (name : List ℕ) (holds : List (List ℕ)) (asked : Bool) (rows : List VersionRow) (r : Bool) → holds ≡ known.source_holds → asked ≡ is_among holds name → rows ≡ option_map_or (λ rows. rows) known.source [] → r ≡ list_any (λ row. is_row_of (Snap name) row && ((row.refs == 0) || asked)) rows → Decides r (ListsHolds known name)
+pub lists-holds : (known : Known) (name : List ℕ) (holds : List (List ℕ)) (asked : Bool) (rows : List VersionRow) (r : Bool) → holds ≡ known.source.asked → asked ≡ is_among holds name → rows ≡ option_map_or (λ rows. rows) known.source.listing [] → r ≡ list_any (λ row. is_row_of (Snap name) row && ((row.refs == 0) || asked)) rows → Decides r (ListsHolds known name)
 lists-holds known name holds asked rows r holds_are asked_is rows_are r_is =
     Decides-at r _ (
     r_is
     ∙ ap (λ (b : Bool). list_any (λ row. is_row_of (Snap name) row && ((row.refs == 0) || b)) rows) (asked_is ∙ ap (λ (names : List (List ℕ)). is_among names name) holds_are)
-    ∙ ap (list_any (λ row. is_row_of (Snap name) row && ((row.refs == 0) || is_among known.source_holds name))) rows_are) (lists-holds-test known name)
+    ∙ ap (list_any (λ row. is_row_of (Snap name) row && ((row.refs == 0) || is_among known.source.asked name))) rows_are) (lists-holds-test known name)
 
 -- a name is that of the job's cursor of a guid, by the test
 pub cursor-decides : (name job : List ℕ) (guid : Guid) → guid.0 < 2 ^ 64 → Decides (is_cursor guid (mark_kind name job)) (name ≡ cursor_text guid.0 job)
@@ -175,26 +175,26 @@ snap-of job guid row snap (inr e) = absurd (true≢false (sym e ∙ snap-is-none
 
 -- the row that the cursor of a guid is made from: a listed snapshot, else a mark
 abbrev pub maker : Pair → Known → Guid → Option VersionRow
-maker pair known guid = option_or (find (λ row. is_snap_of guid row && makes_cursor pair known guid row.name) (option_map_or (λ rows. rows) known.source [])) (find (λ row. makes_cursor pair known guid row.name) known.marks)
+maker pair known guid = option_or (find (λ row. is_snap_of guid row && makes_cursor pair known guid row.name) (option_map_or (λ rows. rows) known.source.listing [])) (find (λ row. makes_cursor pair known guid row.name) known.marks)
 
 pub row-makes : (pair : Pair) (known : Known) (guid : Guid) (row : VersionRow) → maker pair known guid ≡ Some row → MakesCursor pair known guid row.name
 row-makes pair known guid row e =
     by (find (λ row. is_snap_of guid row && makes_cursor pair known guid row.name) listed) refl e
   where
     listed : List VersionRow
-    listed = option_map_or (λ rows. rows) known.source []
+    listed = option_map_or (λ rows. rows) known.source.listing []
 
     by : (found : Option VersionRow) → find (λ row. is_snap_of guid row && makes_cursor pair known guid row.name) listed ≡ found → option_or found (find (λ row. makes_cursor pair known guid row.name) known.marks) ≡ Some row → MakesCursor pair known guid row.name
     by None is e = mark-makes pair known guid known.marks row e
     by (Some first) is e = snap-makes pair known guid listed row (is ∙ e)
 
 -- where neither a listed snapshot nor a mark makes the cursor of a guid, no version does
-no-makes : (pair : Pair) (known : Known) (guid : Guid) → find (λ row. is_snap_of guid row && makes_cursor pair known guid row.name) (option_map_or (λ rows. rows) known.source []) ≡ None → find (λ row. makes_cursor pair known guid row.name) known.marks ≡ None → (version : VersionName) → MakesCursor pair known guid version → ⊥
+no-makes : (pair : Pair) (known : Known) (guid : Guid) → find (λ row. is_snap_of guid row && makes_cursor pair known guid row.name) (option_map_or (λ rows. rows) known.source.listing []) ≡ None → find (λ row. makes_cursor pair known guid row.name) known.marks ≡ None → (version : VersionName) → MakesCursor pair known guid version → ⊥
 no-makes pair known guid no_snap no_mark version m =
     by (find (λ row. is_snap row && is_row_of version row) listed) refl (sym (found_in version known) ∙ m.found)
   where
     listed : List VersionRow
-    listed = option_map_or (λ rows. rows) known.source []
+    listed = option_map_or (λ rows. rows) known.source.listing []
 
     renamed : (row : VersionRow) → is_row_of version row ≡ true → makes_cursor pair known guid row.name ≡ true
     renamed row e = subst (λ (v : VersionName). makes_cursor pair known guid v ≡ true) (sym (named version row.name e)) (made pair known guid version m)
@@ -219,7 +219,7 @@ none-makes pair known guid e =
     by (find (λ row. is_snap_of guid row && makes_cursor pair known guid row.name) listed) refl e
   where
     listed : List VersionRow
-    listed = option_map_or (λ rows. rows) known.source []
+    listed = option_map_or (λ rows. rows) known.source.listing []
 
     by : (found : Option VersionRow) → find (λ row. is_snap_of guid row && makes_cursor pair known guid row.name) listed ≡ found → option_or found (find (λ row. makes_cursor pair known guid row.name) known.marks) ≡ None → (version : VersionName) → MakesCursor pair known guid version → ⊥
     by None is e = no-makes pair known guid is e

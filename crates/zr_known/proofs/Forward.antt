@@ -22,6 +22,7 @@ use Rattle.zr_known.specs.declared.known.Presence.{Presence}
 use Rattle.zr_known.specs.declared.known.Presence.TheVariants.{Unlisted, Absent, There}
 use Rattle.zr_known.specs.declared.known.Receiving.{Receiving}
 use Rattle.zr_known.specs.declared.known.Receiving.TheVariants.{Unknown, Nothing}
+use Rattle.zr_known.specs.Known.{target_rows}
 use Rattle.zr_known.specs.Replication.{is_there, newest_known, plan_between, plan_known, planned_onto, rows_of_source}
 use Rattle.zr_known.specs.Straight.{has_snapshot, is_absent, is_at_rest, is_none_receiving, is_straight, is_untouched, IsForward, rests_on}
 
@@ -161,23 +162,23 @@ between-there pair known (Some source) (There flag) (Some rows) Nothing last som
     forward-there pair.job (rows_of_source known source) rows flag last (newest-planned source known.marks some) is (planned-marked pair.job last.guid source known.marks marked)
 
 -- a pair at rest whose target is there has a plan that is done by transfers alone
-pub rest-forward : (pair : Pair) (known : Known) → has_snapshot known.source ≡ true → is_none_receiving known.receiving ≡ true → is_there known.target ≡ true → is_at_rest pair known ≡ true → IsForward (plan_known pair known)
+pub rest-forward : (pair : Pair) (known : Known) → has_snapshot known.source.listing ≡ true → is_none_receiving known.receiving ≡ true → is_there known.presence ≡ true → is_at_rest pair known ≡ true → IsForward (plan_known pair known)
 rest-forward pair known some none there rest =
     let newest = rests-newest pair known rest in
-    between-there pair known known.source known.target known.rows known.receiving newest.0 some none there newest.1 newest.2
+    between-there pair known known.source.listing known.presence (target_rows known) known.receiving newest.0 some none there newest.1 newest.2
 
 -- so has a straight pair
 pub straight-forward : (pair : Pair) (known : Known) → is_straight pair known ≡ true → IsForward (plan_known pair known)
 straight-forward pair known e = by (is_untouched known) refl parts.1 where
-  parts : (has_snapshot known.source && is_none_receiving known.receiving ≡ true) × ((is_untouched known || (is_there known.target && is_at_rest pair known)) ≡ true)
-  parts = both (has_snapshot known.source && is_none_receiving known.receiving) (is_untouched known || (is_there known.target && is_at_rest pair known)) e
+  parts : (has_snapshot known.source.listing && is_none_receiving known.receiving ≡ true) × ((is_untouched known || (is_there known.presence && is_at_rest pair known)) ≡ true)
+  parts = both (has_snapshot known.source.listing && is_none_receiving known.receiving) (is_untouched known || (is_there known.presence && is_at_rest pair known)) e
 
-  some : (has_snapshot known.source ≡ true) × (is_none_receiving known.receiving ≡ true)
-  some = both (has_snapshot known.source) (is_none_receiving known.receiving) parts.0
+  some : (has_snapshot known.source.listing ≡ true) × (is_none_receiving known.receiving ≡ true)
+  some = both (has_snapshot known.source.listing) (is_none_receiving known.receiving) parts.0
 
-  by : (b : Bool) → is_untouched known ≡ b → (b || (is_there known.target && is_at_rest pair known)) ≡ true → IsForward (plan_known pair known)
+  by : (b : Bool) → is_untouched known ≡ b → (b || (is_there known.presence && is_at_rest pair known)) ≡ true → IsForward (plan_known pair known)
   by true untouched f =
-      between-absent pair known known.source known.target known.rows known.receiving some.0 some.1 (both _ _ (both _ _ untouched).0).0
+      between-absent pair known known.source.listing known.presence (target_rows known) known.receiving some.0 some.1 (both _ _ (both _ _ untouched).0).0
   by false untouched f =
       let rest = both _ _ f in
       rest-forward pair known some.0 some.1 rest.0 rest.1

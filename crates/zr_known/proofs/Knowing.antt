@@ -1,8 +1,10 @@
-use Rattle.std.proofs.Common.{◌≡◌, ◌≢◌, ℕ, Bool, true, false, List, [], ◌∷◌, ◌++◌, Option, Some, None, find, filter, refl, ap, sym, subst, ◌∙◌}
+use Rattle.std.proofs.Common.{◌≡◌, ◌≢◌, ◌||◌, ℕ, Bool, true, false, true≢false, cond, not, List, [], ◌∷◌, ◌++◌, Option, Some, None, find, filter, reverse, refl, ap, sym, subst, ◌∙◌}
 use Rattle.std.specs.Bool.{if◌then◌else◌}
 use Rattle.std.specs.Cmp.Lexicographic.{bytes_decides, nat_list_eq_equiv}
-use Rattle.std.specs.Option.{option_map_or}
-use Rattle.std.proofs.lemmas.List.{reverse-append}
+use Rattle.std.specs.Option.{option_or}
+use Rattle.std.specs.Prelude.{option_map}
+use Rattle.std.proofs.lemmas.List.{append_assoc, reverse-append}
+use Rattle.std.proofs.lemmas.List.Folds.{find-append}
 use Rattle.zr_command.specs.declared.command.Answer.{Answer}
 use Rattle.zr_command.specs.declared.command.Answer.TheVariants as answer
 use Rattle.zr_command.specs.declared.command.Cmd.{Cmd}
@@ -15,7 +17,7 @@ use Rattle.zr_command.specs.Kinds.{is_snap, newest}
 use Rattle.zr_known.specs.declared.known.Known.{Known}
 use Rattle.zr_jobs.specs.declared.pair.Pair.{Pair}
 use Rattle.zr_known.specs.declared.known.Receiving.TheVariants.{Nothing}
-use Rattle.zr_known.specs.Known.{arrival, is_own, known_after, presence_after, told_by, told_transfer, told_versions}
+use Rattle.zr_known.specs.Known.{arrival, is_among, is_own, known_after, presence_after, rows_of, target_rows, told_by, told_transfer, told_versions, without_name}
 use Rattle.zr_known.specs.Replication.{MayGive, newest_known}
 
 -- one turn more
@@ -76,10 +78,10 @@ differ one other wrong = not-true (same_text one other) (λ same. wrong ((bytes_
 equal : (text : List ℕ) → same_text text text ≡ true
 equal text = nat_list_eq_equiv.refl text
 
-pub source-listed : (pair : Pair) (rows : List VersionRow) (known : Known) → told_versions pair pair.source rows known ≡ record known { source = Some rows; marks = filter (is_own pair.job) rows }
+pub source-listed : (pair : Pair) (rows : List VersionRow) (known : Known) → told_versions pair pair.source rows known ≡ record known { source = record known.source { listing = Some rows }; marks = filter (is_own pair.job) rows }
 source-listed pair rows known = rw (equal pair.source) refl
 
-pub target-listed : (pair : Pair) (rows : List VersionRow) (known : Known) → pair.target ≢ pair.source → told_versions pair pair.target rows known ≡ record known { listed = Some rows; rows = Some rows }
+pub target-listed : (pair : Pair) (rows : List VersionRow) (known : Known) → pair.target ≢ pair.source → told_versions pair pair.target rows known ≡ record known { target = record known.target { listing = Some rows }; arrived = Some [] }
 target-listed pair rows known apart = rw (differ pair.target pair.source apart, equal pair.target) refl
 
 pub other-listed : (pair : Pair) (path : List ℕ) (rows : List VersionRow) (known : Known) → path ≢ pair.source → path ≢ pair.target → told_versions pair path rows known ≡ known
@@ -89,8 +91,8 @@ same-target : (pair : Pair) (transfer : Transfer) → transfer.target ≡ pair.t
 same-target pair transfer same = subst (λ (t : List ℕ). same_text t pair.target ≡ true) (sym same) (equal pair.target)
 
 arrived : (pair : Pair) (transfer : Transfer) (known : Known) → transfer.target ≡ pair.target → told_transfer pair transfer known ≡ record known {
-  target = presence_after known.target;
-  rows = option_map_or (λ rows. Some (rows ++ arrival transfer ∷ [])) known.rows None;
+  presence = presence_after known.presence;
+  arrived = option_map (λ arrived. arrived ++ arrival transfer ∷ []) known.arrived;
   transferred = true;
   receiving = Nothing;
 }
@@ -101,10 +103,24 @@ last-newest : (rows : List VersionRow) (row : VersionRow) → is_snap row ≡ tr
 last-newest rows row snapshot =
     ap (find is_snap) (reverse-append rows (row ∷ [])) ∙ rw snapshot refl
 
-pub arrival-newest : (pair : Pair) (transfer : Transfer) (rows : List VersionRow) (known : Known) → transfer.target ≡ pair.target → known.rows ≡ Some rows → newest_known (told_transfer pair transfer known) ≡ Some (arrival transfer)
+-- the newest of a listing and of what arrived since
+pub newest_append : (listing arrived : List VersionRow) → newest (listing ++ arrived) ≡ option_or (newest arrived) (newest listing)
+newest_append listing arrived =
+    ap (find is_snap) (reverse-append listing arrived) ∙ find-append is_snap (reverse arrived) (reverse listing)
+
+-- what has arrived stands behind the target's versions
+pub arrival-rows : (known : Known) (row : VersionRow) (rows : List VersionRow) → target_rows known ≡ Some rows → option_map (λ arrived. rows_of known.target.listing ++ arrived) (option_map (λ arrived. arrived ++ row ∷ []) known.arrived) ≡ Some (rows ++ row ∷ [])
+arrival-rows known row rows are = by known.arrived are where
+  by : (arrived : Option (List VersionRow)) → option_map (λ arrived. rows_of known.target.listing ++ arrived) arrived ≡ Some rows → option_map (λ arrived. rows_of known.target.listing ++ arrived) (option_map (λ arrived. arrived ++ row ∷ []) arrived) ≡ Some (rows ++ row ∷ [])
+  by None are = cc
+  by (Some arrived) are =
+      let same : rows_of known.target.listing ++ arrived ≡ rows = (let it : Some (rows_of known.target.listing ++ arrived) ≡ Some rows = are in cc) in
+      ap Some (sym (append_assoc (rows_of known.target.listing) arrived (row ∷ [])) ∙ ap (λ (rs : List VersionRow). rs ++ row ∷ []) same)
+
+pub arrival-newest : (pair : Pair) (transfer : Transfer) (rows : List VersionRow) (known : Known) → transfer.target ≡ pair.target → target_rows known ≡ Some rows → newest_known (told_transfer pair transfer known) ≡ Some (arrival transfer)
 arrival-newest pair transfer rows known same are =
     ap newest_known (arrived pair transfer known same)
-    ∙ ap (λ (o : Option (List VersionRow)). newest (option_map_or (λ rs. rs) (option_map_or (λ rs. Some (rs ++ arrival transfer ∷ [])) o None) [])) are
+    ∙ ap (λ (o : Option (List VersionRow)). newest (rows_of o)) (arrival-rows known (arrival transfer) rows are)
     ∙ last-newest rows (arrival transfer) refl
 
 pub arrival-whole : (pair : Pair) (transfer : Transfer) (known : Known) → transfer.target ≡ pair.target → (told_transfer pair transfer known).receiving ≡ Nothing
@@ -113,8 +129,8 @@ arrival-whole pair transfer known same = ap (λ (k : Known). k.receiving) (arriv
 pub arrival-marks : (pair : Pair) (transfer : Transfer) (known : Known) → (told_transfer pair transfer known).marks ≡ known.marks
 arrival-marks pair transfer known = choose (same_text transfer.target pair.target) where
   choose : (b : Bool) → (if b then record known {
-    target = presence_after known.target;
-    rows = option_map_or (λ rows. Some (rows ++ arrival transfer ∷ [])) known.rows None;
+    presence = presence_after known.presence;
+    arrived = option_map (λ arrived. arrived ++ arrival transfer ∷ []) known.arrived;
     transferred = true;
     receiving = Nothing;
   } else known).marks ≡ known.marks
@@ -124,3 +140,11 @@ arrival-marks pair transfer known = choose (same_text transfer.target pair.targe
 -- the one transfer that may come next
 pub one-transfer : (pair : Pair) (known : Known) (one other : Transfer) → MayGive pair known (cmd.Transfer one) → MayGive pair known (cmd.Transfer other) → one ≡ other
 one-transfer pair known one other a b = let both : Some one ≡ Some other = sym a.next ∙ b.next in cc
+
+-- a name that is not among others is not taken out of them
+pub none_without : (name : List ℕ) (names : List (List ℕ)) → is_among names name ≡ false → without_name name names ≡ names
+none_without name [] none = refl
+none_without name (other ∷ names) none = by (same_text other name) none (none_without name names) where
+  by : (b : Bool) → (b || is_among names name) ≡ false → (is_among names name ≡ false → without_name name names ≡ names) → cond (not b) (other ∷ without_name name names) (without_name name names) ≡ other ∷ names
+  by true none rest = absurd (true≢false none)
+  by false none rest = ap (λ (ns : List (List ℕ)). other ∷ ns) (rest none)

@@ -7,14 +7,14 @@ use Rattle.zr_command.specs.declared.version.VersionRow.{VersionRow}
 use Rattle.zr_command.specs.Kinds.{is_snap_of, is_tentative_of}
 use Rattle.zr_known.specs.declared.known.Known.{Known}
 use Rattle.zr_jobs.specs.declared.pair.Pair.{Pair}
-use Rattle.zr_known.specs.Known.{source_row}
+use Rattle.zr_known.specs.Known.{rows_of, source_row}
 use Rattle.zr_known.specs.Replication.{HoldsKnown, IsListed, IsSettled}
 
 -- a source snapshot is listed, and its holds are known
 pub record ListsHolds (known : Known) (name : List ℕ) : Type 0 where
   pub row : VersionRow
-  pub listed : IsListed known.source name row
-  pub holds : HoldsKnown row known.source_holds name
+  pub listed : IsListed known.source.listing name row
+  pub holds : HoldsKnown row known.source.asked name
 
 -- the target's newest snapshot has its cursor, which is not what goes, and its last-received hold
 abbrev pub IsSettledBeside : Pair → Known → Option (List ℕ) → Type 0
@@ -40,5 +40,5 @@ cursor_source pair known guid =
     option_map (λ (row : VersionRow). row.name)
     (option_or
     (find (λ row. is_snap_of guid row && makes_cursor pair known guid row.name)
-    (option_map_or (λ rows. rows) known.source []))
+    (rows_of known.source.listing))
     (find (λ row. makes_cursor pair known guid row.name) known.marks))

@@ -1,4 +1,4 @@
-use Rattle.std.specs.Prelude.{◌&&◌, ℕ, Bool, true, false, not, if◌then◌else◌, List, [], ◌∷◌, ◌++◌, Option, Some, None, find, filter, is_some}
+use Rattle.std.specs.Prelude.{◌&&◌, ℕ, Bool, true, false, not, if◌then◌else◌, List, [], ◌∷◌, ◌++◌, Option, Some, None, find, filter, is_some, option_map}
 use Rattle.std.specs.List.{list_any}
 use Rattle.std.specs.Option.{option_map_or}
 use Rattle.zr_names.specs.Marks.{tag_text}
@@ -19,28 +19,37 @@ use Rattle.zr_command.specs.declared.version.VersionRow.{VersionRow}
 use Rattle.zr_command.specs.Names.{is_tagged, same_name, same_text}
 use Rattle.zr_command.specs.Kinds.{is_snap, kind_in}
 use Rattle.zr_known.specs.declared.known.Known.{Known}
+use Rattle.zr_known.specs.declared.known.Side.{Side}
 use Rattle.zr_jobs.specs.declared.pair.Pair.{Pair}
 use Rattle.zr_known.specs.declared.known.Presence.{Presence}
 use Rattle.zr_known.specs.declared.known.Presence.TheVariants.{Unlisted, Absent, There}
 use Rattle.zr_known.specs.declared.known.Receiving.{Receiving}
 use Rattle.zr_known.specs.declared.known.Receiving.TheVariants.{Unknown, Nothing}
 
+-- a side of which nothing was listed
+abbrev pub nothing_listed : Side
+nothing_listed = record { listing = None; asked = []; held = [] }
+
 -- nothing was told yet
 abbrev pub nothing_known : Known
 nothing_known = record {
-  source = None;
+  source = nothing_listed;
+  target = nothing_listed;
   marks = [];
-  step_held = [];
-  source_holds = [];
   sets = None;
-  target = Unlisted;
-  listed = None;
-  rows = None;
-  last_held = [];
-  target_holds = [];
+  presence = Unlisted;
+  arrived = None;
   transferred = false;
   receiving = Unknown;
 }
+
+-- the rows of a listing; none where it was not taken
+abbrev pub rows_of : Option (List VersionRow) → List VersionRow
+rows_of listing = option_map_or (λ rows. rows) listing []
+
+-- the target's versions, where they are known: those of its last listing, and each snapshot that arrived since
+abbrev pub target_rows : Known → Option (List VersionRow)
+target_rows known = option_map (λ arrived. rows_of known.target.listing ++ arrived) known.arrived
 
 -- a bookmark is a cursor or a tentative cursor of the job
 abbrev pub is_own_kind : MarkKind → Bool
@@ -66,13 +75,17 @@ set_among false name names = without_name name names
 abbrev pub is_row_of : VersionName → VersionRow → Bool
 is_row_of name row = same_name name row.name
 
--- what is known of the target's versions once the datasets were listed: where it is absent it has none, and where it
--- was absent before and is there now they are not known
-abbrev pub rows_by_sets : Presence → Option SetRow → Option (List VersionRow) → Option (List VersionRow)
-rows_by_sets before None rows = Some []
-rows_by_sets Unlisted (Some row) rows = rows
-rows_by_sets Absent (Some row) rows = None
-rows_by_sets (There flag) (Some row) rows = rows
+-- what is known of the target once the datasets were listed: where it is absent, its listing and its holds are gone
+abbrev pub side_by_sets : Option SetRow → Side → Side
+side_by_sets None side = nothing_listed
+side_by_sets (Some row) side = side
+
+-- then it has no versions; and where it was absent before and is there now, its versions are not known
+abbrev pub arrived_by_sets : Presence → Option SetRow → Option (List VersionRow) → Option (List VersionRow)
+arrived_by_sets before None arrived = Some []
+arrived_by_sets Unlisted (Some row) arrived = arrived
+arrived_by_sets Absent (Some row) arrived = None
+arrived_by_sets (There flag) (Some row) arrived = arrived
 
 abbrev pub presence_by : Option SetRow → Presence
 presence_by None = Absent
@@ -89,8 +102,9 @@ abbrev pub told_sets : Pair → List SetRow → Known → Known
 told_sets pair rows known =
     record known {
       sets = Some rows;
-      target = presence_by (find (λ row. same_text row.path pair.target) rows);
-      rows = rows_by_sets known.target (find (λ row. same_text row.path pair.target) rows) known.rows;
+      target = side_by_sets (find (λ row. same_text row.path pair.target) rows) known.target;
+      presence = presence_by (find (λ row. same_text row.path pair.target) rows);
+      arrived = arrived_by_sets known.presence (find (λ row. same_text row.path pair.target) rows) known.arrived;
       receiving = receiving_by known.transferred (find (λ row. same_text row.path pair.target) rows);
     }
 
@@ -98,34 +112,41 @@ told_sets pair rows known =
 abbrev pub told_versions : Pair → List ℕ → List VersionRow → Known → Known
 told_versions pair path rows known =
     if same_text path pair.source
-    then record known { source = Some rows; marks = filter (is_own pair.job) rows }
-    else (if same_text path pair.target then record known { listed = Some rows; rows = Some rows } else known)
+    then record known { source = record known.source { listing = Some rows }; marks = filter (is_own pair.job) rows }
+    else (if same_text path pair.target
+    then record known { target = record known.target { listing = Some rows }; arrived = Some [] }
+    else known)
 
--- the holds of a snapshot were listed
+-- the holds of a snapshot of a side were listed: it was asked for them, and has the job's or not
+abbrev pub with_holds : Bool → List ℕ → Side → Side
+with_holds held name side =
+    record side { asked = set_among true name side.asked; held = set_among held name side.held }
+
 abbrev pub told_holds : Pair → List ℕ → List ℕ → List (List ℕ) → Known → Known
 told_holds pair path name tags known =
     if same_text path pair.source
-    then record known {
-      step_held = set_among (is_tagged tags (tag_text Step pair.job)) name known.step_held;
-      source_holds = set_among true name known.source_holds;
-    }
+    then record known { source = with_holds (is_tagged tags (tag_text Step pair.job)) name known.source }
     else (if same_text path pair.target
-    then record known {
-      last_held = set_among (is_tagged tags (tag_text Last pair.job)) name known.last_held;
-      target_holds = set_among true name known.target_holds;
-    }
+    then record known { target = with_holds (is_tagged tags (tag_text Last pair.job)) name known.target }
     else known)
+
+-- other holds of the job are known
+abbrev pub with_step_held : List (List ℕ) → Known → Known
+with_step_held names known = record known { source = record known.source { held = names } }
+
+abbrev pub with_last_held : List (List ℕ) → Known → Known
+with_last_held names known = record known { target = record known.target { held = names } }
 
 -- a hold of the job was put on a snapshot, or taken off
 abbrev pub told_hold : Pair → Bool → TagKind → List ℕ → List ℕ → Known → Known
 told_hold pair held Step path name known =
-    if same_text path pair.source then record known { step_held = set_among held name known.step_held } else known
+    if same_text path pair.source then with_step_held (set_among held name known.source.held) known else known
 told_hold pair held Last path name known =
-    if same_text path pair.target then record known { last_held = set_among held name known.last_held } else known
+    if same_text path pair.target then with_last_held (set_among held name known.target.held) known else known
 
 -- what a bookmark is made from: a listed snapshot, or a known mark
 abbrev pub source_row : VersionName → Known → Option VersionRow
-source_row name known = find (is_row_of name) (option_map_or (filter is_snap) known.source [] ++ known.marks)
+source_row name known = find (is_row_of name) (option_map_or (filter is_snap) known.source.listing [] ++ known.marks)
 
 abbrev pub with_mark : List ℕ → Option VersionRow → Known → Known
 with_mark name None known = known
@@ -159,8 +180,8 @@ abbrev pub told_transfer : Pair → Transfer → Known → Known
 told_transfer pair transfer known =
     if same_text transfer.target pair.target
     then record known {
-      target = presence_after known.target;
-      rows = option_map_or (λ rows. Some (rows ++ arrival transfer ∷ [])) known.rows None;
+      presence = presence_after known.presence;
+      arrived = option_map (λ arrived. arrived ++ arrival transfer ∷ []) known.arrived;
       transferred = true;
       receiving = Nothing;
     }

@@ -24,16 +24,16 @@ use Rattle.zr_known.specs.declared.known.Presence.{Presence}
 use Rattle.zr_known.specs.declared.known.Presence.TheVariants.{Unlisted, Absent, There}
 use Rattle.zr_known.specs.declared.known.Receiving.{Receiving}
 use Rattle.zr_known.specs.declared.known.Receiving.TheVariants.{Nothing}
-use Rattle.zr_known.specs.Known.{is_among, is_row_of, source_row}
+use Rattle.zr_known.specs.Known.{is_among, is_row_of, rows_of, source_row, target_rows}
 
 -- the target's newest snapshot, where its versions are known
 abbrev pub newest_known : Known → Option VersionRow
-newest_known known = newest (option_map_or (λ rows. rows) known.rows [])
+newest_known known = newest (rows_of (target_rows known))
 
 -- the target is known to have no snapshot
 pub record HasNone (known : Known) : Type 0 where
   pub rows : List VersionRow
-  pub are_known : known.rows ≡ Some rows
+  pub are_known : target_rows known ≡ Some rows
   pub none : is_none (newest rows) ≡ true
 
 -- the target's newest snapshot is this one, with its cursor on the source and its last-received hold known
@@ -41,7 +41,7 @@ pub record IsSettled (pair : Pair) (known : Known) (last : VersionRow) (name : L
   pub is_newest : newest_known known ≡ Some last
   pub named : last.name ≡ Snap name
   pub cursor : list_any (is_cursor_of pair.job last.guid) known.marks ≡ true
-  pub held : is_among known.last_held name ≡ true
+  pub held : is_among known.target.held name ≡ true
 
 -- the source's rows for a plan: the listed snapshots, and the job's marks as they are now
 abbrev pub rows_of_source : Known → List VersionRow → List VersionRow
@@ -64,7 +64,7 @@ plan_between pair known rows target receiving = None
 -- its flag and versions known, and the partial receive is known
 abbrev pub plan_known : Pair → Known → Option Planned
 plan_known pair known =
-    plan_between pair known known.source (planned_onto known.target known.rows) known.receiving
+    plan_between pair known known.source.listing (planned_onto known.presence (target_rows known)) known.receiving
 
 abbrev pub is_there : Presence → Bool
 is_there Unlisted = false
@@ -80,7 +80,7 @@ transfer_of_step pair known step true =
       guid = step.guid;
       base = base.Full;
       target = pair.target;
-      force = is_there known.target;
+      force = is_there known.presence;
     })
 transfer_of_step pair known step false =
     option_map (λ last. record {
@@ -119,9 +119,9 @@ HoldsKnown row asked name = (row.refs ≡ 0) ⊎ (is_among asked name ≡ true)
 -- the step hold: on a listed source snapshot whose holds are known, where it is not there
 pub record MayHoldStep (known : Known) (name : List ℕ) : Type 0 where
   pub row : VersionRow
-  pub listed : IsListed known.source name row
-  pub holds : HoldsKnown row known.source_holds name
-  pub free : is_among known.step_held name ≡ false
+  pub listed : IsListed known.source.listing name row
+  pub holds : HoldsKnown row known.source.asked name
+  pub free : is_among known.source.held name ≡ false
 
 -- the cursor: of the target's newest snapshot, made from a listed source snapshot with its guid or from the job's
 -- tentative cursor of it, where it is not there
@@ -141,18 +141,18 @@ pub record MayHoldLast (pair : Pair) (known : Known) (name : List ℕ) : Type 0 
   pub is_newest : newest_known known ≡ Some last
   pub named : last.name ≡ Snap name
   pub cursor : list_any (is_cursor_of pair.job last.guid) known.marks ≡ true
-  pub holds : HoldsKnown last known.target_holds name
-  pub free : is_among known.last_held name ≡ false
+  pub holds : HoldsKnown last known.target.asked name
+  pub free : is_among known.target.held name ≡ false
 
 -- its release: on another snapshot than the newest, once the newest has it
 pub record MayReleaseLast (known : Known) (name : List ℕ) : Type 0 where
-  pub held : is_among known.last_held name ≡ true
+  pub held : is_among known.target.held name ≡ true
   pub last : VersionRow
   pub last_name : List ℕ
   pub is_newest : newest_known known ≡ Some last
   pub named : last.name ≡ Snap last_name
   pub other : name ≢ last_name
-  pub moved : is_among known.last_held last_name ≡ true
+  pub moved : is_among known.target.held last_name ≡ true
 
 -- cleaning up: no partial receive needs anything; and the target has no snapshot, where the last listing of the datasets
 -- shows the job's root (a pool that is not imported looks as if nothing were there), or its newest snapshot has its
@@ -171,7 +171,7 @@ pub record MayDestroyMark (pair : Pair) (known : Known) (name : List ℕ) : Type
 
 -- the release of a step hold on the source
 pub record MayReleaseStep (pair : Pair) (known : Known) (name : List ℕ) : Type 0 where
-  pub held : is_among known.step_held name ≡ true
+  pub held : is_among known.source.held name ≡ true
   pub clear : MayClear pair known None
 
 -- the target has nothing to settle: it has no snapshot, or its newest one has its cursor and its last-received hold
@@ -183,7 +183,7 @@ NewestIsSafe pair known =
 -- is safe
 pub record MayTransfer (pair : Pair) (known : Known) (transfer : Transfer) : Type 0 where
   pub next : next_transfer pair known ≡ Some transfer
-  pub held : is_among known.step_held transfer.to ≡ true
+  pub held : is_among known.source.held transfer.to ≡ true
   pub safe : NewestIsSafe pair known
 
 -- a listing shows a snapshot
@@ -199,7 +199,8 @@ abbrev pub MayGive : Pair → Known → Cmd → Type 0
 MayGive pair known cmd.Sets = ⊤
 MayGive pair known (cmd.Versions path) = (path ≡ pair.source) ⊎ ((path ≡ pair.target) × ShowsSet known pair.target)
 MayGive pair known (cmd.Holds path name) =
-    ((path ≡ pair.source) × Shows known.source name) ⊎ ((path ≡ pair.target) × Shows known.listed name)
+    ((path ≡ pair.source) × Shows known.source.listing name)
+    ⊎ ((path ≡ pair.target) × Shows known.target.listing name)
 MayGive pair known (cmd.Hold Step job path name) = IsOf pair job path pair.source × MayHoldStep known name
 MayGive pair known (cmd.Hold Last job path name) = IsOf pair job path pair.target × MayHoldLast pair known name
 MayGive pair known (cmd.Release Step job path name) = IsOf pair job path pair.source × MayReleaseStep pair known name

@@ -43,28 +43,28 @@ abbrev pub has_listed_target : Pair → Known → Bool
 has_listed_target pair known =
     option_map_or
     (λ sets. not (list_any (λ row. same_text row.path pair.target) sets)
-    || has_listed_holds known.target_holds known.listed)
+    || has_listed_holds known.target.asked known.target.listing)
     known.sets false
 
 -- all that a replication lists before it begins was listed: the datasets; the versions of the source, and of a target that
 -- is there; and the holds of each snapshot of theirs that has some
 abbrev pub has_listed : Pair → Known → Bool
 has_listed pair known =
-    has_listed_holds known.source_holds known.source && has_listed_target pair known
+    has_listed_holds known.source.asked known.source.listing && has_listed_target pair known
 
 -- of the job's marks and holds only those of this snapshot are known: no other mark than its cursor, no last-received
 -- hold on another snapshot, and no step hold
 abbrev pub is_alone : Pair → Known → VersionRow → List ℕ → Bool
 is_alone pair known last name =
     list_all (is_cursor_of pair.job last.guid) known.marks
-    && list_all (λ other. same_text other name) known.last_held
-    && (length known.step_held == 0)
+    && list_all (λ other. same_text other name) known.target.held
+    && (length known.source.held == 0)
 
 -- a snapshot has its cursor on the source and its last-received hold, and there is nothing else of the job
 abbrev pub rests_on : Pair → Known → VersionRow → VersionName → Bool
 rests_on pair known last (Snap name) =
     list_any (is_cursor_of pair.job last.guid) known.marks
-    && is_among known.last_held name
+    && is_among known.target.held name
     && is_alone pair known last name
 rests_on pair known last (Mark name) = false
 
@@ -81,7 +81,7 @@ is_absent (There flag) = false
 -- nothing was replicated yet: the target is not there, and no own mark and no step hold is known
 abbrev pub is_untouched : Known → Bool
 is_untouched known =
-    is_absent known.target && (length known.marks == 0) && (length known.step_held == 0)
+    is_absent known.presence && (length known.marks == 0) && (length known.source.held == 0)
 
 -- no partial receive is there
 abbrev pub is_none_receiving : Receiving → Bool
@@ -96,9 +96,9 @@ has_snapshot listing = is_some (newest (option_map_or (λ rows. rows) listing []
 -- is there and there is nothing to settle
 abbrev pub is_straight : Pair → Known → Bool
 is_straight pair known =
-    has_snapshot known.source
+    has_snapshot known.source.listing
     && is_none_receiving known.receiving
-    && (is_untouched known || (is_there known.target && is_at_rest pair known))
+    && (is_untouched known || (is_there known.presence && is_at_rest pair known))
 
 -- a replication has finished: all was listed, the target has what the source has, and there is nothing to settle
 pub record IsFinished (pair : Pair) (known : Known) : Type 0 where

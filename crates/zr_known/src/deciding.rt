@@ -1,12 +1,13 @@
-ghost use Rattle.std.specs.Prelude.{◌≡◌, ◌==◌, ◌&&◌, ◌||◌, Some, Decides};
+ghost use Rattle.std.specs.Prelude.{◌≡◌, ◌==◌, ◌&&◌, ◌||◌, ◌++◌, Some, Decides};
 ghost use Rattle.std.specs.List.{list_any};
 ghost use Rattle.std.specs.Option.{option_copied};
 ghost use Rattle.zr_names.specs.Marks.{cursor_text};
+ghost use Rattle.zr_command.specs.Kinds.{newest};
 ghost use Rattle.zr_command.specs.Names.{same_text};
 ghost use Rattle.zr_command.specs.declared.version.VersionName.TheVariants.{Snap};
 ghost use Rattle.zr_known.specs.Known.{is_row_of};
 
-use crate::known::{Known, Receiving};
+use crate::known::{Known, Receiving, Side};
 use crate::versions::{has_cursor, has_mark, has_snap, is_among, is_snap_named};
 use zr_command::{SetRow, VersionName, VersionRow, is_cursor, newest};
 use zr_jobs::Pair;
@@ -50,6 +51,30 @@ pub(crate) fn shows_path(sets: &[SetRow], path: &Path) -> bool
     sets.iter().any(|row| row.path == *path)
 }
 
+/// The newest snapshot of a listing and of what arrived since.
+#[tactic(auto, using(crate::proofs::Knowing::newest_append))]
+fn newest_of<'a>(listing: &'a [VersionRow], arrived: &'a [VersionRow]) -> Option<&'a VersionRow>
+    ensures { option_copied result ≡ newest (listing.now ++ arrived.now) }
+{
+    if let Some(row) = newest(arrived) {
+        Some(row)
+    } else {
+        newest(listing)
+    }
+}
+
+impl Side {
+    ghost use Rattle.std.specs.Prelude.{Decides};
+    ghost use Rattle.zr_known.specs.Replication.{Shows};
+
+    /// Whether its last listing shows a snapshot.
+    fn shows(&self, name: &SnapName) -> bool
+        ensures { Decides result (Shows self.now.listing name.now) }
+    {
+        has_snap(self.rows(), name)
+    }
+}
+
 impl Known {
     ghost use Rattle.std.specs.Prelude.{◌≡◌, [], Decides};
     ghost use Rattle.std.specs.List.{list_any};
@@ -64,10 +89,10 @@ impl Known {
     pub fn newest(&self) -> Option<&VersionRow>
         ensures { option_copied result ≡ newest_known self.now }
     {
-        match &self.rows {
-            Some(rows) => newest(rows.as_slice()),
-            None => None,
-        }
+        let Some(arrived) = &self.arrived else {
+            return None;
+        };
+        newest_of(self.target.rows(), arrived.as_slice())
     }
 
     /// Whether a bookmark is one of the job's marks on the source.
@@ -86,16 +111,16 @@ impl Known {
 
     /// Whether a source snapshot has the job's step hold.
     pub fn is_step_held(&self, name: &SnapName) -> bool
-        ensures { result ≡ is_among self.now.step_held name.now }
+        ensures { result ≡ is_among self.now.source.held name.now }
     {
-        is_among(self.step_held.as_slice(), name)
+        is_among(self.source.held.as_slice(), name)
     }
 
     /// Whether a snapshot of the target has the job's last-received hold.
     pub fn is_last_held(&self, name: &SnapName) -> bool
-        ensures { result ≡ is_among self.now.last_held name.now }
+        ensures { result ≡ is_among self.now.target.held name.now }
     {
-        is_among(self.last_held.as_slice(), name)
+        is_among(self.target.held.as_slice(), name)
     }
 
     /// Whether the last listing of the datasets shows this one.
@@ -108,42 +133,26 @@ impl Known {
         }
     }
 
-    /// The rows of the source's last listing.
-    pub(crate) fn listed_rows(&self) -> &[VersionRow]
-        ensures { result.now ≡ option_map_or (λ rows. rows) self.now.source [] }
-    {
-        match &self.source {
-            Some(rows) => rows.as_slice(),
-            None => &[],
-        }
-    }
-
     /// Whether the source's last listing shows a snapshot.
     pub fn shows_source(&self, name: &SnapName) -> bool
-        ensures { Decides result (Shows self.now.source name.now) }
+        ensures { Decides result (Shows self.now.source.listing name.now) }
     {
-        match &self.source {
-            Some(rows) => has_snap(rows.as_slice(), name),
-            None => false,
-        }
+        self.source.shows(name)
     }
 
     /// Whether the target's last listing shows a snapshot.
     pub fn shows_target(&self, name: &SnapName) -> bool
-        ensures { Decides result (Shows self.now.listed name.now) }
+        ensures { Decides result (Shows self.now.target.listing name.now) }
     {
-        match &self.listed {
-            Some(rows) => has_snap(rows.as_slice(), name),
-            None => false,
-        }
+        self.target.shows(name)
     }
 
     /// Whether a source snapshot is listed, and its holds are known.
     fn lists_holds(&self, name: &SnapName) -> bool
         ensures { Decides result (ListsHolds self.now name.now) }
     {
-        let asked = is_among(self.source_holds.as_slice(), name);
-        lists_known_holds(self.listed_rows(), name, asked)
+        let asked = is_among(self.source.asked.as_slice(), name);
+        lists_known_holds(self.source.rows(), name, asked)
     }
 
     /// Whether the step hold may be put on a source snapshot.
@@ -160,7 +169,7 @@ impl Known {
         let Some(last) = self.newest() else {
             return false;
         };
-        let asked = is_among(self.target_holds.as_slice(), name);
+        let asked = is_among(self.target.asked.as_slice(), name);
         has_known_holds(last, name, asked)
             && self.knows_cursor(pair, last.guid)
             && !self.is_last_held(name)
@@ -185,10 +194,7 @@ impl Known {
     fn has_none(&self) -> bool
         ensures { Decides result (HasNone self.now) }
     {
-        match &self.rows {
-            Some(rows) => newest(rows.as_slice()).is_none(),
-            None => false,
-        }
+        self.arrived.is_some() && self.newest().is_none()
     }
 
     /// Whether the target's newest snapshot has its cursor, which is not this mark, and its last-received hold.

@@ -1,5 +1,3 @@
-ghost use Rattle.std.specs.Prelude.{◌≡◌};
-
 use std::alloc::Global;
 use zr_command::{SetRow, VersionRow};
 use zr_names::{JobName, Path, Rows, SnapName};
@@ -22,33 +20,60 @@ pub enum Receiving {
     Nothing,
 }
 
+/// What is known of one dataset of a pair.
+#[derive(Drop)]
+pub struct Side {
+    /// Its last listing.
+    pub listing: Option<Rows<VersionRow>>,
+    /// The snapshots whose holds were listed.
+    pub asked: Rows<SnapName>,
+    /// The snapshots with the job's hold: the step hold on the source, the last-received hold on the target.
+    pub held: Rows<SnapName>,
+}
+
 /// What a replication unit has been told.
 #[derive(Drop)]
 pub struct Known {
-    /// The source's last listing.
-    pub source: Option<Rows<VersionRow>>,
+    pub source: Side,
+    pub target: Side,
     /// The job's cursors and tentative cursors on the source.
     pub marks: Rows<VersionRow>,
-    /// The source snapshots with the job's step hold.
-    pub step_held: Rows<SnapName>,
-    /// The source snapshots whose holds were listed.
-    pub source_holds: Rows<SnapName>,
     /// The last listing of the datasets.
     pub sets: Option<Rows<SetRow>>,
     /// Whether the target is there.
-    pub target: Presence,
-    /// The target's last listing.
-    pub listed: Option<Rows<VersionRow>>,
-    /// The target's versions: those listed, with each snapshot that was transferred since.
-    pub rows: Option<Rows<VersionRow>>,
-    /// The target's snapshots with the job's last-received hold.
-    pub last_held: Rows<SnapName>,
-    /// The target's snapshots whose holds were listed.
-    pub target_holds: Rows<SnapName>,
+    pub presence: Presence,
+    /// The target's snapshots that were transferred since its last listing, where its versions are known.
+    pub arrived: Option<Rows<VersionRow>>,
     /// Whether a transfer was done.
     pub transferred: bool,
     /// The target's partial receive.
     pub receiving: Receiving,
+}
+
+impl Side {
+    ghost use Rattle.std.specs.Prelude.{◌≡◌};
+    ghost use Rattle.zr_known.specs.Known.{nothing_listed, rows_of};
+
+    /// Nothing of it was listed.
+    pub fn new(alloc: Global) -> Side
+        ensures { result ≡ nothing_listed }
+    {
+        Side {
+            listing: None,
+            asked: Rows::new(alloc),
+            held: Rows::new(alloc),
+        }
+    }
+
+    /// The rows of its last listing.
+    pub fn rows(&self) -> &[VersionRow]
+        ensures { result.now ≡ rows_of self.now.listing }
+    {
+        match &self.listing {
+            Some(rows) => rows.as_slice(),
+            None => &[],
+        }
+    }
 }
 
 impl Known {
@@ -60,16 +85,12 @@ impl Known {
         ensures { result ≡ nothing_known }
     {
         Known {
-            source: None,
+            source: Side::new(alloc),
+            target: Side::new(alloc),
             marks: Rows::new(alloc),
-            step_held: Rows::new(alloc),
-            source_holds: Rows::new(alloc),
             sets: None,
-            target: Presence::Unlisted,
-            listed: None,
-            rows: None,
-            last_held: Rows::new(alloc),
-            target_holds: Rows::new(alloc),
+            presence: Presence::Unlisted,
+            arrived: None,
             transferred: false,
             receiving: Receiving::Unknown,
         }

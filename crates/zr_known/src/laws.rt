@@ -9,7 +9,7 @@ ghost use Rattle.zr_command.specs.declared.version.VersionRow.{VersionRow};
 ghost use Rattle.zr_known.specs.declared.known.Known.{Known};
 ghost use Rattle.zr_jobs.specs.declared.pair.Pair.{Pair};
 ghost use Rattle.zr_known.specs.declared.known.Receiving.TheVariants as receiving;
-ghost use Rattle.zr_known.specs.Known.{arrival, is_own, known_of, nothing_known, told_by};
+ghost use Rattle.zr_known.specs.Known.{arrival, is_own, known_of, nothing_known, target_rows, told_by};
 ghost use Rattle.zr_known.specs.Replication.{MayGive, newest_known, plan_known};
 ghost use Rattle.zr_known.specs.Straight.{is_straight, IsForward};
 ghost use Rattle.zr_known.specs.declared.straight.TheConstants.{NOT_STRAIGHT};
@@ -37,10 +37,10 @@ pub fn what_was_not_done_tells_nothing()
 pub fn a_listing_replaces_what_it_lists()
     ensures source { (pair : Pair) (rows : List VersionRow) (known : Known) →
         told_by pair (cmd.Versions pair.source) (answer.Done (reply.Versions rows)) known
-        ≡ record known { source = Some rows; marks = filter (is_own pair.job) rows } }
+        ≡ record known { source = record known.source { listing = Some rows }; marks = filter (is_own pair.job) rows } }
     ensures target { (pair : Pair) (rows : List VersionRow) (known : Known) → pair.target ≢ pair.source →
         told_by pair (cmd.Versions pair.target) (answer.Done (reply.Versions rows)) known
-        ≡ record known { listed = Some rows; rows = Some rows } }
+        ≡ record known { target = record known.target { listing = Some rows }; arrived = Some [] } }
     ensures other { (pair : Pair) (path : List ℕ) (rows : List VersionRow) (known : Known) →
         path ≢ pair.source → path ≢ pair.target →
         told_by pair (cmd.Versions path) (answer.Done (reply.Versions rows)) known ≡ known }
@@ -50,7 +50,7 @@ pub fn a_listing_replaces_what_it_lists()
 /// known of the source stays.
 pub fn a_done_transfer_makes_its_snapshot_the_newest()
     ensures newest { (pair : Pair) (transfer : Transfer) (rows : List VersionRow) (known : Known) →
-        transfer.target ≡ pair.target → known.rows ≡ Some rows →
+        transfer.target ≡ pair.target → target_rows known ≡ Some rows →
         newest_known (told_by pair (cmd.Transfer transfer) (answer.Done reply.Nothing) known)
         ≡ Some (arrival transfer) }
     ensures whole { (pair : Pair) (transfer : Transfer) (known : Known) → transfer.target ≡ pair.target →

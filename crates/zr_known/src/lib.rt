@@ -1,7 +1,7 @@
 //! What a replication unit knows after each of its turns, and what it may give by that.
 #![tactic(auto)]
 
-pub use known::{Known, Presence, Receiving};
+pub use known::{Known, Presence, Receiving, Side};
 pub use straight::NOT_STRAIGHT;
 
 mod deciding;

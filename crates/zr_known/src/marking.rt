@@ -12,14 +12,14 @@ impl Known {
     ghost use Rattle.zr_command.specs.Kinds.{is_snap_of};
     ghost use Rattle.zr_command.specs.declared.version.VersionName.{VersionName};
     ghost use Rattle.zr_known.specs.Deciding.{cursor_source, makes_cursor, MakesCursor};
-    ghost use Rattle.zr_known.specs.Known.{source_row};
+    ghost use Rattle.zr_known.specs.Known.{rows_of, source_row};
 
     /// What a bookmark is made from: a listed snapshot, or a known mark.
     #[tactic(auto, using(crate::proofs::Decisions::found_in))]
     pub(crate) fn source_row(&self, version: &VersionName) -> Option<&VersionRow>
         ensures { option_copied result ≡ source_row version.now self.now }
     {
-        if let Some(row) = snap_row(self.listed_rows(), version) {
+        if let Some(row) = snap_row(self.source.rows(), version) {
             Some(row)
         } else {
             row_of(self.marks.as_slice(), version)
@@ -64,10 +64,10 @@ impl Known {
     fn cursor_row(&self, pair: &Pair, guid: Guid) -> Option<&VersionRow>
         ensures { option_copied result ≡ option_or
             (find (λ row. is_snap_of guid row && makes_cursor pair.now self.now guid row.name)
-            (option_map_or (λ rows. rows) self.now.source []))
+            (rows_of self.now.source.listing))
             (find (λ row. makes_cursor pair.now self.now guid row.name) self.now.marks) }
     {
-        if let Some(row) = self.making_snap(pair, guid, self.listed_rows()) {
+        if let Some(row) = self.making_snap(pair, guid, self.source.rows()) {
             Some(row)
         } else {
             self.making_mark(pair, guid, self.marks.as_slice())

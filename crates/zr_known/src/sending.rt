@@ -37,6 +37,7 @@ fn push_all(copies: &mut Rows<VersionRow>, rows: &[VersionRow]) -> Result<(), No
 
 impl Known {
     ghost use Rattle.std.specs.Prelude.{◌≡◌, IfOk};
+    ghost use Rattle.zr_known.specs.Known.{target_rows};
     ghost use Rattle.zr_known.specs.Replication.{next_transfer, plan_known, planned_onto, rows_of_source, transfer_of_step};
 
     /// The source's rows for a plan.
@@ -55,21 +56,25 @@ impl Known {
 
     /// What a plan knows of the target.
     fn planned_onto(&self, alloc: Global) -> Result<Option<Target>, NoMemory>
-        ensures { IfOk result (λ target. target ≡ planned_onto self.now.target self.now.rows) }
+        ensures { IfOk result (λ target. target ≡ planned_onto self.now.presence (target_rows self.now)) }
     {
-        match (self.target, &self.rows) {
+        match (self.presence, &self.arrived) {
             (Presence::Absent, _) => Ok(Some(Target {
                 there: false,
                 placeholder: false,
                 rows: Rows::new(alloc),
                 partial: None,
             })),
-            (Presence::There(flag), Some(rows)) => Ok(Some(Target {
-                there: true,
-                placeholder: flag,
-                rows: same_items(alloc, rows.as_slice())?,
-                partial: None,
-            })),
+            (Presence::There(flag), Some(arrived)) => {
+                let mut rows = same_items(alloc, self.target.rows())?;
+                push_all(&mut rows, arrived.as_slice())?;
+                Ok(Some(Target {
+                    there: true,
+                    placeholder: flag,
+                    rows,
+                    partial: None,
+                }))
+            }
             (Presence::Unlisted, _) | (Presence::There(_), None) => Ok(None),
         }
     }
@@ -78,7 +83,7 @@ impl Known {
     pub fn plan_known(&self, alloc: Global, pair: &Pair) -> Result<Option<Planned>, NoMemory>
         ensures { IfOk result (λ planned. planned ≡ plan_known pair.now self.now) }
     {
-        let Some(rows) = &self.source else {
+        let Some(rows) = &self.source.listing else {
             return Ok(None);
         };
         let Some(target) = self.planned_onto(alloc)? else {
@@ -110,7 +115,7 @@ impl Known {
         ensures { IfOk result (λ transfer. transfer ≡ transfer_of_step pair.now self.now step.now step.now.full) }
     {
         let (base, force) = if step.full {
-            (Base::Full, is_there(self.target))
+            (Base::Full, is_there(self.presence))
         } else {
             let Some(last) = self.newest() else {
                 return Ok(None);

@@ -5,7 +5,7 @@ ghost use Rattle.zr_command.specs.Names.{same_text};
 ghost use Rattle.zr_known.specs.Straight.{has_known_holds, has_listed_holds, is_absent, is_none_receiving};
 
 use crate::deciding::shows_path;
-use crate::known::{Known, Presence, Receiving};
+use crate::known::{Known, Presence, Receiving, Side};
 use crate::sending::is_there;
 use crate::versions::is_among;
 use zr_command::{VersionName, VersionRow, is_cursor_of, newest};
@@ -55,33 +55,31 @@ fn is_none_receiving(receiving: Receiving) -> bool
     matches!(receiving, Receiving::Nothing)
 }
 
+impl Side {
+    ghost use Rattle.std.specs.Prelude.{◌≡◌};
+    ghost use Rattle.zr_known.specs.Straight.{has_listed_holds};
+
+    /// Whether it was listed, and the holds of each of its snapshots are known.
+    fn has_listed_holds(&self) -> bool
+        ensures { result ≡ has_listed_holds self.now.asked self.now.listing }
+    {
+        match &self.listing {
+            Some(rows) => all_known_holds(rows.as_slice(), self.asked.as_slice()),
+            None => false,
+        }
+    }
+}
+
 impl Known {
     ghost use Rattle.std.specs.Prelude.{◌≡◌};
-    ghost use Rattle.zr_known.specs.Straight.{has_listed, has_listed_holds, has_listed_target, has_snapshot, is_alone, is_at_rest, is_straight, is_untouched};
-
-    fn has_listed_source(&self) -> bool
-        ensures { result ≡ has_listed_holds self.now.source_holds self.now.source }
-    {
-        match &self.source {
-            Some(rows) => all_known_holds(rows.as_slice(), self.source_holds.as_slice()),
-            None => false,
-        }
-    }
-
-    fn has_listed_versions(&self) -> bool
-        ensures { result ≡ has_listed_holds self.now.target_holds self.now.listed }
-    {
-        match &self.listed {
-            Some(rows) => all_known_holds(rows.as_slice(), self.target_holds.as_slice()),
-            None => false,
-        }
-    }
+    ghost use Rattle.zr_known.specs.Straight.{has_listed, has_listed_target, has_snapshot, is_alone, is_at_rest, is_straight, is_untouched};
 
     fn has_listed_target(&self, pair: &Pair) -> bool
         ensures { result ≡ has_listed_target pair.now self.now }
     {
         match &self.sets {
-            Some(sets) => !shows_path(sets.as_slice(), &pair.target) || self.has_listed_versions(),
+            Some(sets) => !shows_path(sets.as_slice(), &pair.target)
+                || self.target.has_listed_holds(),
             None => false,
         }
     }
@@ -90,15 +88,15 @@ impl Known {
     pub fn has_listed(&self, pair: &Pair) -> bool
         ensures { result ≡ has_listed pair.now self.now }
     {
-        self.has_listed_source() && self.has_listed_target(pair)
+        self.source.has_listed_holds() && self.has_listed_target(pair)
     }
 
     fn is_alone(&self, pair: &Pair, last: &VersionRow, name: &SnapName) -> bool
         ensures { result ≡ is_alone pair.now self.now last.now name.now }
     {
         all_cursors(self.marks.as_slice(), &pair.job, last.guid)
-            && all_named(self.last_held.as_slice(), name)
-            && self.step_held.is_empty()
+            && all_named(self.target.held.as_slice(), name)
+            && self.source.held.is_empty()
     }
 
     /// Whether there is nothing to settle: the target's newest snapshot has its cursor and its last-received hold, and
@@ -122,13 +120,13 @@ impl Known {
     fn is_untouched(&self) -> bool
         ensures { result ≡ is_untouched self.now }
     {
-        is_absent(self.target) && self.marks.is_empty() && self.step_held.is_empty()
+        is_absent(self.presence) && self.marks.is_empty() && self.source.held.is_empty()
     }
 
     fn has_snapshot(&self) -> bool
-        ensures { result ≡ has_snapshot self.now.source }
+        ensures { result ≡ has_snapshot self.now.source.listing }
     {
-        newest(self.listed_rows()).is_some()
+        newest(self.source.rows()).is_some()
     }
 
     /// Whether replication may begin: what is there is one of the two straight cases.
@@ -137,6 +135,6 @@ impl Known {
     {
         self.has_snapshot()
             && is_none_receiving(self.receiving)
-            && (self.is_untouched() || (is_there(self.target) && self.is_at_rest(pair)))
+            && (self.is_untouched() || (is_there(self.presence) && self.is_at_rest(pair)))
     }
 }

@@ -1,7 +1,7 @@
-use crate::known::{Known, Receiving};
+use crate::known::{Known, Receiving, Side};
 use crate::updates::{
-    has_tag, mark_row, own_marks, presence_after, presence_by, push_arrival, receiving_by,
-    retain_others, rows_by_sets, set_among, set_at,
+    arrived_by_sets, has_tag, insert_name, mark_row, own_marks, presence_after, presence_by,
+    push_arrival, receiving_by, retain_others, set_among, set_at,
 };
 use crate::versions::is_own_mark;
 use std::alloc::Global;
@@ -9,6 +9,22 @@ use std::mem;
 use zr_command::{Answer, Cmd, Reply, SetRow, Transfer, VersionName, VersionRow};
 use zr_jobs::Pair;
 use zr_names::{JobName, MarkName, NoMemory, Path, Rows, SnapName, Tag, TagKind, same_items};
+
+impl Side {
+    ghost use Rattle.std.specs.Prelude.{◌≡◌, OnErr, OnOk};
+    ghost use Rattle.zr_known.specs.Known.{with_holds};
+
+    /// The holds of a snapshot were listed, and the job's is among them or not.
+    fn told_holds(&mut self, alloc: Global, held: bool, name: &SnapName) -> Result<(), NoMemory>
+        ensures ok { OnOk result (self.new ≡ with_holds held name.now self.old) }
+        ensures err { OnErr result (self.new ≡ self.old) }
+    {
+        let held = set_among(alloc, held, name, self.held.as_slice())?;
+        insert_name(alloc, &mut self.asked, name)?;
+        self.held = held;
+        Ok(())
+    }
+}
 
 impl Known {
     ghost use Rattle.std.specs.Prelude.{◌≡◌, OnErr, OnOk, if◌then◌else◌};
@@ -23,9 +39,12 @@ impl Known {
     {
         let copies = same_items(alloc, rows)?;
         let found = set_at(rows, &pair.target);
-        let before = self.rows.take();
-        self.rows = rows_by_sets(alloc, self.target, found, before);
-        self.target = presence_by(found);
+        if found.is_none() {
+            self.target = Side::new(alloc);
+        }
+        let before = self.arrived.take();
+        self.arrived = arrived_by_sets(alloc, self.presence, found, before);
+        self.presence = presence_by(found);
         self.receiving = receiving_by(self.transferred, found);
         self.sets = Some(copies);
         Ok(())
@@ -45,11 +64,10 @@ impl Known {
         if *path == pair.source {
             let copies = same_items(alloc, rows)?;
             self.marks = own_marks(alloc, rows, &pair.job)?;
-            self.source = Some(copies);
+            self.source.listing = Some(copies);
         } else if *path == pair.target {
-            let copies = same_items(alloc, rows)?;
-            self.listed = Some(same_items(alloc, rows)?);
-            self.rows = Some(copies);
+            self.target.listing = Some(same_items(alloc, rows)?);
+            self.arrived = Some(Rows::new(alloc));
         }
         Ok(())
     }
@@ -68,16 +86,13 @@ impl Known {
     {
         if *path == pair.source {
             let held = has_tag(tags, TagKind::Step, &pair.job);
-            let asked = set_among(alloc, true, name, self.source_holds.as_slice())?;
-            self.step_held = set_among(alloc, held, name, self.step_held.as_slice())?;
-            self.source_holds = asked;
+            self.source.told_holds(alloc, held, name)
         } else if *path == pair.target {
             let held = has_tag(tags, TagKind::Last, &pair.job);
-            let asked = set_among(alloc, true, name, self.target_holds.as_slice())?;
-            self.last_held = set_among(alloc, held, name, self.last_held.as_slice())?;
-            self.target_holds = asked;
+            self.target.told_holds(alloc, held, name)
+        } else {
+            Ok(())
         }
-        Ok(())
     }
 
     /// A hold of the job was put on a snapshot, or taken off.
@@ -95,10 +110,10 @@ impl Known {
     {
         match kind {
             TagKind::Step if *path == pair.source => {
-                self.step_held = set_among(alloc, held, name, self.step_held.as_slice())?;
+                self.source.held = set_among(alloc, held, name, self.source.held.as_slice())?;
             }
             TagKind::Last if *path == pair.target => {
-                self.last_held = set_among(alloc, held, name, self.last_held.as_slice())?;
+                self.target.held = set_among(alloc, held, name, self.target.held.as_slice())?;
             }
             TagKind::Step | TagKind::Last => {}
         }
@@ -167,8 +182,8 @@ impl Known {
         ensures err { OnErr result (self.new ≡ self.old) }
     {
         if transfer.target == pair.target {
-            push_arrival(&mut self.rows, transfer)?;
-            self.target = presence_after(self.target);
+            push_arrival(&mut self.arrived, transfer)?;
+            self.presence = presence_after(self.presence);
             self.transferred = true;
             self.receiving = Receiving::Nothing;
         }

@@ -1,12 +1,12 @@
-ghost use Rattle.std.specs.Prelude.{◌≡◌, ◌++◌, ◌∷◌, [], None, Some, IfOk, OnErr, OnOk, filter, find, not};
-ghost use Rattle.std.specs.Option.{option_copied, option_map_or};
+ghost use Rattle.std.specs.Prelude.{◌≡◌, ◌++◌, ◌∷◌, [], IfOk, OnErr, OnOk, filter, find, not, option_map, true};
+ghost use Rattle.std.specs.Option.{option_copied};
 ghost use Rattle.zr_names.specs.Marks.{tag_text};
 ghost use Rattle.zr_command.specs.Names.{is_tagged, same_text};
 ghost use Rattle.zr_command.specs.declared.version.VersionName.TheVariants.{Mark};
-ghost use Rattle.zr_known.specs.Known.{arrival, is_own, is_row_of, presence_after, presence_by, receiving_by, rows_by_sets, set_among, without_name};
+ghost use Rattle.zr_known.specs.Known.{arrival, is_own, is_row_of, presence_after, presence_by, receiving_by, arrived_by_sets, set_among, without_name};
 
 use crate::known::{Presence, Receiving};
-use crate::versions::{is_mark_of, is_own};
+use crate::versions::{is_among, is_mark_of, is_own};
 use std::alloc::Global;
 use zr_command::{SetRow, Transfer, VersionName, VersionRow};
 use zr_names::{JobName, MarkName, NoMemory, Path, Rows, Same, SnapName, Tag, TagKind, is_tag};
@@ -35,18 +35,18 @@ pub(crate) fn receiving_by(transferred: bool, row: Option<&SetRow>) -> Receiving
     }
 }
 
-pub(crate) fn rows_by_sets(
+pub(crate) fn arrived_by_sets(
     alloc: Global,
     before: Presence,
     row: Option<&SetRow>,
-    rows: Option<Rows<VersionRow>>,
+    arrived: Option<Rows<VersionRow>>,
 ) -> Option<Rows<VersionRow>>
-    ensures { result ≡ rows_by_sets before (option_copied row.entry) rows }
+    ensures { result ≡ arrived_by_sets before (option_copied row.entry) arrived }
 {
     match (before, row) {
         (_, None) => Some(Rows::new(alloc)),
         (Presence::Absent, Some(_)) => None,
-        (Presence::Unlisted | Presence::There(_), Some(_)) => rows,
+        (Presence::Unlisted | Presence::There(_), Some(_)) => arrived,
     }
 }
 
@@ -109,6 +109,24 @@ pub(crate) fn set_among(
     Ok(others)
 }
 
+/// A name among others, in their place.
+#[tactic(auto, using(crate::proofs::Knowing::none_without))]
+pub(crate) fn insert_name(
+    alloc: Global,
+    names: &mut Rows<SnapName>,
+    name: &SnapName,
+) -> Result<(), NoMemory>
+    ensures ok { OnOk result (names.new ≡ set_among true name.now names.old) }
+    ensures err { OnErr result (names.new ≡ names.old) }
+{
+    if is_among(names.as_slice(), name) {
+        *names = set_among(alloc, true, name, names.as_slice())?;
+    } else {
+        names.push(name.same()?)?;
+    }
+    Ok(())
+}
+
 /// Takes the bookmark of this name out of some rows.
 pub(crate) fn retain_others(rows: &mut Vec<VersionRow>, name: &MarkName)
     ensures { rows.new.items ≡ filter (λ row. not (is_row_of (Mark name.now) row)) rows.old.items }
@@ -142,16 +160,15 @@ fn arrival(transfer: &Transfer) -> Result<VersionRow, NoMemory>
     })
 }
 
-/// Adds the row of a snapshot that arrived, where the rows are known.
+/// Adds the row of a snapshot that arrived, where the target's versions are known.
 pub(crate) fn push_arrival(
-    rows: &mut Option<Rows<VersionRow>>,
+    arrived: &mut Option<Rows<VersionRow>>,
     transfer: &Transfer,
 ) -> Result<(), NoMemory>
-    ensures ok { OnOk result (rows.new ≡
-        option_map_or (λ rows. Some (rows ++ arrival transfer.now ∷ [])) rows.old None) }
-    ensures err { OnErr result (rows.new ≡ rows.old) }
+    ensures ok { OnOk result (arrived.new ≡ option_map (λ rows. rows ++ arrival transfer.now ∷ []) arrived.old) }
+    ensures err { OnErr result (arrived.new ≡ arrived.old) }
 {
-    if let Some(rows) = rows {
+    if let Some(rows) = arrived {
         rows.push(arrival(transfer)?)?;
     }
     Ok(())
