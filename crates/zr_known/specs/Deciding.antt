@@ -1,4 +1,4 @@
-use Rattle.std.specs.Prelude.{◌≡◌, ◌≢◌, ◌&&◌, ◌||◌, ◌⊎◌, ℕ, Bool, true, false, List, [], Option, Some, find, option_map}
+use Rattle.std.specs.Prelude.{◌≡◌, ◌≢◌, ◌&&◌, ◌||◌, ◌⊎◌, ℕ, Bool, true, false, List, Option, Some, find, option_map}
 use Rattle.std.specs.Option.{option_map_or, option_or}
 use Rattle.zr_names.specs.Marks.{cursor_text}
 use Rattle.zr_names.specs.declared.unit.Guid.{Guid}

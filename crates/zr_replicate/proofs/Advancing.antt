@@ -23,10 +23,11 @@ use Rattle.zr_known.specs.declared.known.Known.{Known}
 use Rattle.zr_jobs.specs.declared.pair.Pair.{Pair}
 use Rattle.zr_known.specs.declared.known.Presence.{Presence}
 use Rattle.zr_known.specs.declared.known.Presence.TheVariants.{Absent, There, Unlisted}
-use Rattle.zr_known.specs.Known.{arrival, is_among, is_row_of, presence_after, source_row}
+use Rattle.zr_known.specs.Known.{arrival, is_among, is_row_of, presence_after, rows_of, source_row, target_rows, with_step_held}
 use Rattle.zr_known.specs.Replication.{HoldsKnown, is_there, MayHoldStep, newest_known, next_transfer, plan_known, transfer_of_plan, transfer_of_step}
 use Rattle.zr_known.specs.Straight.{has_known_holds, version_holds_known}
 use Rattle.zr_known.proofs.Decisions.{found_in}
+use Rattle.zr_known.proofs.Knowing.{arrival-rows}
 use Rattle.zr_replicate.specs.Settlement.{is_bookmark, IsAlone, IsSafe, MaySettle, OnlyMarks}
 use Rattle.zr_replicate.specs.Steps.{HasSource, IsAtRest, IsReady, IsUntouched, newest_by, RestsOn, SameListings, step_count}
 use Rattle.zr_replicate.specs.Progress.{HasArrived}
@@ -38,10 +39,10 @@ use Rattle.zr_replicate.proofs.Sending.{rest-plan, rest-sends, SendsRow, untouch
 -- what both kinds of a ready pair have
 record ReadyParts (known : Known) : Type 0 where
   source : HasSource known
-  no_step_holds : known.step_held ≡ []
+  no_step_holds : known.source.held ≡ []
   bookmarks : list_all is_bookmark known.marks ≡ true
   rows : List VersionRow
-  rows_are : known.rows ≡ Some rows
+  rows_are : target_rows known ≡ Some rows
 
 parts-of : (pair : Pair) (known : Known) → IsReady pair known → ReadyParts known
 parts-of pair known (inl u) = record {
@@ -52,9 +53,9 @@ parts-of pair known (inl u) = record {
   rows_are = u.no_rows;
 }
 parts-of pair known (inr r) =
-    by known.rows refl r.rests.safe.settled.is_newest
+    by (target_rows known) refl r.rests.safe.settled.is_newest
   where
-    by : (rows : Option (List VersionRow)) → known.rows ≡ rows → newest (option_map_or (λ rows. rows) rows []) ≡ Some r.rests.safe.last → ReadyParts known
+    by : (rows : Option (List VersionRow)) → target_rows known ≡ rows → newest (rows_of rows) ≡ Some r.rests.safe.last → ReadyParts known
     by None is e = cc
     by (Some rows) is e = record {
       source = r.rests.source;
@@ -90,7 +91,7 @@ may-hold pair known transfer ready next =
     record {
       row = sends.row;
       listed = record { rows = parts.source.rows; are_listed = parts.source.are_listed; among = sends.among; named = sends.named };
-      holds = holds-known sends.row known.source_holds transfer.to sends.named (passes-of (has_known_holds known.source_holds) parts.source.rows sends.row parts.source.holds sends.among);
+      holds = holds-known sends.row known.source.asked transfer.to sends.named (passes-of (has_known_holds known.source.asked) parts.source.rows sends.row parts.source.holds sends.among);
       free = ap (λ (names : List (List ℕ)). is_among names transfer.to) parts.no_step_holds;
     }
 
@@ -128,7 +129,7 @@ both true b e = (refl, e)
 both false b e = absurd (true≢false (sym e))
 
 -- a listed snapshot is what a bookmark is made from by its name
-source-found : (known : Known) (rows : List VersionRow) (row : VersionRow) (name : List ℕ) → known.source ≡ Some rows → IsVersionList rows → Contains rows row → row.name ≡ Snap name → source_row (Snap name) known ≡ Some row
+source-found : (known : Known) (rows : List VersionRow) (row : VersionRow) (name : List ℕ) → known.source.listing ≡ Some rows → IsVersionList rows → Contains rows row → row.name ≡ Snap name → source_row (Snap name) known ≡ Some row
 source-found known rows row name is in_list among is_named =
     found_in (Snap name) known
     ∙ ap (λ (o : Option (List VersionRow)). option_or (find test (option_map_or (λ rows. rows) o [])) (find (is_row_of (Snap name)) known.marks)) is
@@ -151,19 +152,18 @@ last-newest : (rows : List VersionRow) (row : VersionRow) → is_snap row ≡ tr
 last-newest rows row snapshot = ap (find is_snap) (reverse-append rows (row ∷ [])) ∙ rw snapshot refl
 
 -- what has arrived may be settled
-pub may-settle : (pair : Pair) (known held sent : Known) (transfer : Transfer) (names : List (List ℕ)) → IsReady pair known → next_transfer pair known ≡ Some transfer → held ≡ record known { step_held = names } → HasArrived transfer held sent → MaySettle pair sent (newest_by transfer)
+pub may-settle : (pair : Pair) (known held sent : Known) (transfer : Transfer) (names : List (List ℕ)) → IsReady pair known → next_transfer pair known ≡ Some transfer → held ≡ with_step_held names known → HasArrived transfer held sent → MaySettle pair sent (newest_by transfer)
 may-settle pair known held sent transfer names ready next holds arrived =
     let parts = parts-of pair known ready in
     let sends = ready-sends pair known transfer ready next in
-    let rows : sent.rows ≡ Some (parts.rows ++ arrival transfer ∷ []) =
-    ap (λ (k : Known). k.rows) arrived
-    ∙ ap (λ (k : Known). option_map_or (λ rows. Some (rows ++ arrival transfer ∷ [])) k.rows None) holds
-    ∙ ap (λ (o : Option (List VersionRow)). option_map_or (λ rows. Some (rows ++ arrival transfer ∷ [])) o None) parts.rows_are in
-    let source : sent.source ≡ Some parts.source.rows = ap (λ (k : Known). k.source) arrived ∙ ap (λ (k : Known). k.source) holds ∙ parts.source.are_listed in
+    let rows : target_rows sent ≡ Some (parts.rows ++ arrival transfer ∷ []) =
+    ap target_rows arrived
+    ∙ arrival-rows held (arrival transfer) parts.rows (ap target_rows holds ∙ parts.rows_are) in
+    let source : sent.source.listing ≡ Some parts.source.rows = ap (λ (k : Known). k.source.listing) arrived ∙ ap (λ (k : Known). k.source.listing) holds ∙ parts.source.are_listed in
     record {
       last = arrival transfer;
       is_newest = record {
-        is_newest = ap (λ (o : Option (List VersionRow)). newest (option_map_or (λ rows. rows) o [])) rows ∙ last-newest parts.rows (arrival transfer) refl;
+        is_newest = ap (λ (o : Option (List VersionRow)). newest (rows_of o)) rows ∙ last-newest parts.rows (arrival transfer) refl;
         named = refl;
         of_guid = refl;
         holds = inl refl;
@@ -204,7 +204,7 @@ contains-filter p (x ∷ xs) row among pass =
     tail false rest = rest
 
 -- once a step was settled, fewer are planned
-pub steps-fall : (pair : Pair) (known now : Known) (transfer : Transfer) → IsAtRest pair known → next_transfer pair known ≡ Some transfer → RestsOn pair now (newest_by transfer) → now.source ≡ known.source → step_count (plan_known pair now) < step_count (plan_known pair known)
+pub steps-fall : (pair : Pair) (known now : Known) (transfer : Transfer) → IsAtRest pair known → next_transfer pair known ≡ Some transfer → RestsOn pair now (newest_by transfer) → now.source.listing ≡ known.source.listing → step_count (plan_known pair now) < step_count (plan_known pair known)
 steps-fall pair known now transfer rest next rests same =
     let sent = rest-sends pair known transfer rest.newest rest.rests next in
     let rows = rest.rests.source.rows in
@@ -222,19 +222,19 @@ steps-fall pair known now transfer rest next rests same =
     omega (arith, ap step_count planned_now ∙ count-steps _, ap step_count before.planned ∙ count-steps _, fall)
 
 -- what a settled step leaves as it was
-module _ (pair : Pair) (known held sent now : Known) (transfer : Transfer) (names : List (List ℕ)) (holds : held ≡ record known { step_held = names }) (arrived : HasArrived transfer held sent) (only : OnlyMarks sent now) where
+module _ (pair : Pair) (known held sent now : Known) (transfer : Transfer) (names : List (List ℕ)) (holds : held ≡ with_step_held names known) (arrived : HasArrived transfer held sent) (only : OnlyMarks sent now) where
   pub same-listings : SameListings known now
   same-listings = record {
     sets = ap (λ (k : Known). k.sets) only ∙ ap (λ (k : Known). k.sets) arrived ∙ ap (λ (k : Known). k.sets) holds;
-    source = ap (λ (k : Known). k.source) only ∙ ap (λ (k : Known). k.source) arrived ∙ ap (λ (k : Known). k.source) holds;
-    source_holds = ap (λ (k : Known). k.source_holds) only ∙ ap (λ (k : Known). k.source_holds) arrived ∙ ap (λ (k : Known). k.source_holds) holds;
-    listed = ap (λ (k : Known). k.listed) only ∙ ap (λ (k : Known). k.listed) arrived ∙ ap (λ (k : Known). k.listed) holds;
-    target_holds = ap (λ (k : Known). k.target_holds) only ∙ ap (λ (k : Known). k.target_holds) arrived ∙ ap (λ (k : Known). k.target_holds) holds;
+    source = ap (λ (k : Known). k.source.listing) only ∙ ap (λ (k : Known). k.source.listing) arrived ∙ ap (λ (k : Known). k.source.listing) holds;
+    source_asked = ap (λ (k : Known). k.source.asked) only ∙ ap (λ (k : Known). k.source.asked) arrived ∙ ap (λ (k : Known). k.source.asked) holds;
+    target = ap (λ (k : Known). k.target.listing) only ∙ ap (λ (k : Known). k.target.listing) arrived ∙ ap (λ (k : Known). k.target.listing) holds;
+    target_asked = ap (λ (k : Known). k.target.asked) only ∙ ap (λ (k : Known). k.target.asked) arrived ∙ ap (λ (k : Known). k.target.asked) holds;
   }
 
-  target-after : now.target ≡ presence_after known.target
+  target-after : now.presence ≡ presence_after known.presence
   target-after =
-      ap (λ (k : Known). k.target) only ∙ ap (λ (k : Known). k.target) arrived ∙ ap (λ (k : Known). presence_after k.target) holds
+      ap (λ (k : Known). k.presence) only ∙ ap (λ (k : Known). k.presence) arrived ∙ ap (λ (k : Known). presence_after k.presence) holds
 
   -- and that the target is there
   pub step-rests : IsReady pair known → IsSafe pair now (newest_by transfer) → IsAlone pair now (newest_by transfer) → RestsOn pair now (newest_by transfer)
@@ -245,7 +245,7 @@ module _ (pair : Pair) (known held sent now : Known) (transfer : Transfer) (name
           rows = source.rows;
           are_listed = same-listings.source ∙ source.are_listed;
           in_list = source.in_list;
-          holds = ap (λ (asked : List (List ℕ)). list_all (has_known_holds asked) source.rows) same-listings.source_holds ∙ source.holds;
+          holds = ap (λ (asked : List (List ℕ)). list_all (has_known_holds asked) source.rows) same-listings.source_asked ∙ source.holds;
           some = source.some;
         };
         there = ap is_there target-after ∙ by ready;
@@ -258,9 +258,9 @@ module _ (pair : Pair) (known held sent now : Known) (transfer : Transfer) (name
       kept Absent e = refl
       kept (There flag) e = refl
 
-      by : IsReady pair known → is_there (presence_after known.target) ≡ true
+      by : IsReady pair known → is_there (presence_after known.presence) ≡ true
       by (inl u) = ap (λ (t : Presence). is_there (presence_after t)) u.absent
-      by (inr r) = kept known.target r.rests.there
+      by (inr r) = kept known.presence r.rests.there
 
 -- an untouched pair has a first transfer
 transfer-of : (pair : Pair) (known : Known) (steps : List Step) → None ≡ transfer_of_plan pair known (Some (Steps (in_full steps))) → steps ≡ []

@@ -20,7 +20,7 @@ use Rattle.zr_world.proofs.Keeping.{found-passes}
 use Rattle.zr_command.specs.Kinds.{is_cursor, is_cursor_of, kind_in, names_snap}
 use Rattle.zr_known.specs.declared.known.Known.{Known}
 use Rattle.zr_jobs.specs.declared.pair.Pair.{Pair}
-use Rattle.zr_known.specs.Known.{is_among, is_own_kind, is_row_of, set_among, told_by, without_name}
+use Rattle.zr_known.specs.Known.{is_among, is_own_kind, is_row_of, set_among, told_by, with_last_held, with_step_held, without_name}
 use Rattle.zr_known.specs.Replication.{MayDestroyMark, MayMark, MayReleaseLast}
 use Rattle.zr_replicate.specs.declared.settlement.Newest.{Newest}
 use Rattle.zr_replicate.specs.Settlement.{first_other, HasCursor, is_any_cursor, is_bookmark, IsAlone, IsOtherMark, IsOtherName, IsSafe, SettlesFrom}
@@ -129,7 +129,7 @@ among-without name other names differs among =
       keeps x e = rw (differ x other (λ same. differs (sym same ∙ (bytes_decides x name).0 e))) refl
 
 -- the settled newest snapshot with its hold
-pub held-safe : (pair : Pair) (before now : Known) (newest : Newest) → HasCursor pair before newest → now ≡ record before { last_held = set_among true newest.name before.last_held } → IsSafe pair now newest
+pub held-safe : (pair : Pair) (before now : Known) (newest : Newest) → HasCursor pair before newest → now ≡ with_last_held (set_among true newest.name before.target.held) before → IsSafe pair now newest
 held-safe pair before now newest has is =
     subst (λ (known : Known). IsSafe pair known newest) (sym is) (record {
       last = has.last;
@@ -137,7 +137,7 @@ held-safe pair before now newest has is =
         is_newest = has.is_newest.is_newest;
         named = has.is_newest.named;
         cursor = subst (λ (g : Guid). list_any (is_cursor_of pair.job g) before.marks ≡ true) (sym has.is_newest.of_guid) has.cursor;
-        held = among-set newest.name before.last_held;
+        held = among-set newest.name before.target.held;
       };
       of_guid = has.is_newest.of_guid;
       no_partial = has.is_newest.no_partial;
@@ -145,7 +145,7 @@ held-safe pair before now newest has is =
     })
 
 -- what is no longer wanted of the last-received holds goes
-pub may-release_last : (pair : Pair) (known : Known) (newest : Newest) (name : List ℕ) → IsSafe pair known newest → IsOtherName known.last_held newest.name name → MayReleaseLast known name
+pub may-release_last : (pair : Pair) (known : Known) (newest : Newest) (name : List ℕ) → IsSafe pair known newest → IsOtherName known.target.held newest.name name → MayReleaseLast known name
 may-release_last pair known newest name safe other = record {
   held = other.among;
   last = safe.last;
@@ -156,7 +156,7 @@ may-release_last pair known newest name safe other = record {
   moved = safe.settled.held;
 }
 
-pub released-safe : (pair : Pair) (before now : Known) (newest : Newest) (name : List ℕ) → IsSafe pair before newest → name ≢ newest.name → now ≡ record before { last_held = without_name name before.last_held } → IsSafe pair now newest
+pub released-safe : (pair : Pair) (before now : Known) (newest : Newest) (name : List ℕ) → IsSafe pair before newest → name ≢ newest.name → now ≡ with_last_held (without_name name before.target.held) before → IsSafe pair now newest
 released-safe pair before now newest name safe other is =
     subst (λ (known : Known). IsSafe pair known newest) (sym is) (record {
       last = safe.last;
@@ -164,7 +164,7 @@ released-safe pair before now newest name safe other is =
         is_newest = safe.settled.is_newest;
         named = safe.settled.named;
         cursor = safe.settled.cursor;
-        held = among-without newest.name name before.last_held other safe.settled.held;
+        held = among-without newest.name name before.target.held other safe.settled.held;
       };
       of_guid = safe.of_guid;
       no_partial = safe.no_partial;
@@ -285,17 +285,17 @@ pub marks-again : (first before now : Known) (marks : List VersionRow) → befor
 marks-again first before now marks one other =
     other ∙ ap (λ (k : Known). record k { marks = marks }) one ∙ ap (λ (m : List VersionRow). record first { marks = m }) (sym (ap (λ (k : Known). k.marks) other))
 
-pub last-again : (first before now : Known) (names : List (List ℕ)) → before ≡ record first { last_held = before.last_held } → now ≡ record before { last_held = names } → now ≡ record first { last_held = now.last_held }
+pub last-again : (first before now : Known) (names : List (List ℕ)) → before ≡ with_last_held before.target.held first → now ≡ with_last_held names before → now ≡ with_last_held now.target.held first
 last-again first before now names one other =
-    other ∙ ap (λ (k : Known). record k { last_held = names }) one ∙ ap (λ (n : List (List ℕ)). record first { last_held = n }) (sym (ap (λ (k : Known). k.last_held) other))
+    other ∙ ap (with_last_held names) one ∙ ap (λ (n : List (List ℕ)). with_last_held n first) (sym (ap (λ (k : Known). k.target.held) other))
 
 -- once each clearing stage is done, nothing else is left
-pub all-clear : (pair : Pair) (newest : Newest) (released destroyed now : Known) → list_all (λ other. same_text other newest.name) released.last_held ≡ true → destroyed ≡ record released { marks = destroyed.marks } → list_all (is_cursor_of pair.job newest.guid) destroyed.marks ≡ true → now ≡ record destroyed { step_held = now.step_held } → now.step_held ≡ [] → IsAlone pair now newest
+pub all-clear : (pair : Pair) (newest : Newest) (released destroyed now : Known) → list_all (λ other. same_text other newest.name) released.target.held ≡ true → destroyed ≡ record released { marks = destroyed.marks } → list_all (is_cursor_of pair.job newest.guid) destroyed.marks ≡ true → now ≡ with_step_held now.source.held destroyed → now.source.held ≡ [] → IsAlone pair now newest
 all-clear pair newest released destroyed now last one marks other none = record {
   marks = ap (λ (k : Known). list_all (is_cursor_of pair.job newest.guid) k.marks) other ∙ marks;
   last_held =
-      ap (λ (k : Known). list_all (λ x. same_text x newest.name) k.last_held) other
-      ∙ ap (λ (k : Known). list_all (λ x. same_text x newest.name) k.last_held) one
+      ap (λ (k : Known). list_all (λ x. same_text x newest.name) k.target.held) other
+      ∙ ap (λ (k : Known). list_all (λ x. same_text x newest.name) k.target.held) one
       ∙ last;
   step_held = none;
 }

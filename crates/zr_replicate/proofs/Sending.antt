@@ -19,6 +19,7 @@ use Rattle.zr_jobs.specs.declared.pair.Pair.{Pair}
 use Rattle.zr_known.specs.declared.known.Presence.{Presence}
 use Rattle.zr_known.specs.declared.known.Presence.TheVariants.{Absent, There, Unlisted}
 use Rattle.zr_known.specs.declared.known.Receiving.TheVariants.{Nothing}
+use Rattle.zr_known.specs.Known.{target_rows}
 use Rattle.zr_known.specs.Replication.{is_there, newest_known, next_transfer, plan_between, plan_known, planned_onto, transfer_of_plan, transfer_of_step}
 use Rattle.zr_replicate.specs.declared.settlement.Newest.{Newest}
 use Rattle.zr_replicate.specs.Settlement.{is_bookmark}
@@ -137,10 +138,10 @@ pub rest-plan : (pair : Pair) (known : Known) (newest : Newest) (rests : RestsOn
 rest-plan pair known n rests =
     let safe = rests.safe in
     let source = rests.source in
-    let trows = rows-known known.rows safe.last safe.settled.is_newest in
+    let trows = rows-known (target_rows known) safe.last safe.settled.is_newest in
     let own = cursor-found pair.job safe.last.guid (filter is_snap source.rows) known.marks safe.settled.cursor in
-    let planned = there-plan pair known source.rows trows.0 known.target safe.last own.0 rests.there (source-some source.rows known.marks source.some) trows.2 own.1 in
-    let of_guid : Guid → Type 0 = λ g. plan_between pair known (Some source.rows) (planned_onto known.target (Some trows.0)) Nothing ≡ Some (steps_plan (steps_of (filter (is_later (filter is_snap source.rows ++ known.marks) g own.0) (filter is_snap source.rows ++ known.marks)))) in
+    let planned = there-plan pair known source.rows trows.0 known.presence safe.last own.0 rests.there (source-some source.rows known.marks source.some) trows.2 own.1 in
+    let of_guid : Guid → Type 0 = λ g. plan_between pair known (Some source.rows) (planned_onto known.presence (Some trows.0)) Nothing ≡ Some (steps_plan (steps_of (filter (is_later (filter is_snap source.rows ++ known.marks) g own.0) (filter is_snap source.rows ++ known.marks)))) in
     record {
       own = own.0;
       planned = rw (source.are_listed, trows.1, safe.no_partial) (subst of_guid safe.of_guid planned);

@@ -45,12 +45,12 @@ cursor-is-bookmark job guid row e = by row.name e where
   by (Snap name) e = absurd (true≢false (sym e))
   by (Mark name) e = refl
 
-listed-holds : (pair : Pair) (known : Known) (rows : List VersionRow) → known.source ≡ Some rows → has_listed pair known ≡ true → list_all (has_known_holds known.source_holds) rows ≡ true
+listed-holds : (pair : Pair) (known : Known) (rows : List VersionRow) → known.source.listing ≡ Some rows → has_listed pair known ≡ true → list_all (has_known_holds known.source.asked) rows ≡ true
 listed-holds pair known rows is listed =
-    sym (ap (has_listed_holds known.source_holds) is) ∙ (both (has_listed_holds known.source_holds known.source) (has_listed_target pair known) listed).0
+    sym (ap (has_listed_holds known.source.asked) is) ∙ (both (has_listed_holds known.source.asked known.source.listing) (has_listed_target pair known) listed).0
 
 -- the parts of a straight pair
-source-of : (pair : Pair) (known : Known) → HasListedAll pair known → has_snapshot known.source ≡ true → HasSource known
+source-of : (pair : Pair) (known : Known) → HasListedAll pair known → has_snapshot known.source.listing ≡ true → HasSource known
 source-of pair known all some = record {
   rows = all.source.source;
   are_listed = all.source.source_is;
@@ -59,14 +59,14 @@ source-of pair known all some = record {
   some = sym (ap has_snapshot all.source.source_is) ∙ some;
 }
 
-rests-of : (pair : Pair) (known : Known) → HasSource known → is_there known.target ≡ true → known.receiving ≡ Nothing → is_at_rest pair known ≡ true → IsAtRest pair known
+rests-of : (pair : Pair) (known : Known) → HasSource known → is_there known.presence ≡ true → known.receiving ≡ Nothing → is_at_rest pair known ≡ true → IsAtRest pair known
 rests-of pair known source there no_partial rest = by (newest_known known) refl rest where
   named : (last : VersionRow) (name : VersionName) → newest_known known ≡ Some last → last.name ≡ name → rests_on pair known last name ≡ true → IsAtRest pair known
   named last (Mark name) is is_named e = absurd (true≢false (sym e))
   named last (Snap name) is is_named e =
       let outer = both _ (is_alone pair known last name) e in
-      let inner = both _ (is_among known.last_held name) outer.0 in
-      let alone = both _ (length known.step_held == 0) outer.1 in
+      let inner = both _ (is_among known.target.held name) outer.0 in
+      let alone = both _ (length known.source.held == 0) outer.1 in
       let marks = both (list_all (is_cursor_of pair.job last.guid) known.marks) _ alone.0 in
       record {
         newest = record { name = name; guid = last.guid };
@@ -80,7 +80,7 @@ rests-of pair known source there no_partial rest = by (newest_known known) refl 
             no_partial = no_partial;
             bookmarks = all-weaker (is_cursor_of pair.job last.guid) is_bookmark (cursor-is-bookmark pair.job last.guid) known.marks marks.0;
           };
-          alone = record { marks = marks.0; last_held = marks.1; step_held = none-left known.step_held alone.1 };
+          alone = record { marks = marks.0; last_held = marks.1; step_held = none-left known.source.held alone.1 };
         };
       }
 
@@ -91,28 +91,28 @@ rests-of pair known source there no_partial rest = by (newest_known known) refl 
 -- a straight pair is ready for its first step
 pub straight-ready : (pair : Pair) (known : Known) → HasListedAll pair known → is_straight pair known ≡ true → IsReady pair known
 straight-ready pair known all straight = by (is_untouched known) refl parts.1 where
-  parts : ((has_snapshot known.source && is_none_receiving known.receiving) ≡ true) × ((is_untouched known || (is_there known.target && is_at_rest pair known)) ≡ true)
-  parts = both (has_snapshot known.source && is_none_receiving known.receiving) (is_untouched known || (is_there known.target && is_at_rest pair known)) straight
+  parts : ((has_snapshot known.source.listing && is_none_receiving known.receiving) ≡ true) × ((is_untouched known || (is_there known.presence && is_at_rest pair known)) ≡ true)
+  parts = both (has_snapshot known.source.listing && is_none_receiving known.receiving) (is_untouched known || (is_there known.presence && is_at_rest pair known)) straight
 
-  some : (has_snapshot known.source ≡ true) × (is_none_receiving known.receiving ≡ true)
-  some = both (has_snapshot known.source) (is_none_receiving known.receiving) parts.0
+  some : (has_snapshot known.source.listing ≡ true) × (is_none_receiving known.receiving ≡ true)
+  some = both (has_snapshot known.source.listing) (is_none_receiving known.receiving) parts.0
 
   source : HasSource known
   source = source-of pair known all some.0
 
-  by : (b : Bool) → is_untouched known ≡ b → (b || (is_there known.target && is_at_rest pair known)) ≡ true → IsReady pair known
+  by : (b : Bool) → is_untouched known ≡ b → (b || (is_there known.presence && is_at_rest pair known)) ≡ true → IsReady pair known
   by true untouched e =
-      let outer = both _ (length known.step_held == 0) untouched in
-      let inner = both (is_absent known.target) (length known.marks == 0) outer.0 in
-      let absent = absent-is known.target inner.0 in
+      let outer = both _ (length known.source.held == 0) untouched in
+      let inner = both (is_absent known.presence) (length known.marks == 0) outer.0 in
+      let absent = absent-is known.presence inner.0 in
       inl (record {
         source = source;
         absent = absent;
         no_rows = all.sets.none_absent absent;
         no_marks = none-left known.marks inner.1;
-        no_step_holds = none-left known.step_held outer.1;
+        no_step_holds = none-left known.source.held outer.1;
         no_partial = nothing-is known.receiving some.1;
       })
   by false untouched e =
-      let rest = both (is_there known.target) (is_at_rest pair known) e in
+      let rest = both (is_there known.presence) (is_at_rest pair known) e in
       inr (rests-of pair known source rest.0 (nothing-is known.receiving some.1) rest.1)

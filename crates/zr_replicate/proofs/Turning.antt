@@ -12,7 +12,6 @@ use Rattle.zr_command.specs.declared.command.Answer.TheVariants.{Done}
 use Rattle.zr_command.specs.declared.command.Answer.TheVariants as answer
 use Rattle.zr_command.specs.declared.command.Cmd.{Cmd}
 use Rattle.zr_command.specs.declared.command.Reply.{Reply}
-use Rattle.zr_known.specs.declared.known.Known.{Known}
 use Rattle.zr_jobs.specs.declared.pair.Pair.{Pair}
 use Rattle.zr_jobs.specs.declared.job.JobSet.{JobSet}
 use Rattle.zr_command.specs.declared.command.Entry.{Entry}
@@ -24,7 +23,7 @@ use Rattle.zr_names.specs.declared.outcome.Outcome.TheVariants as outcome
 use Rattle.zr_known.specs.declared.straight.TheConstants.{NOT_STRAIGHT}
 use Rattle.zr_known.specs.Straight.{has_listed, is_straight, IsFinished}
 use Rattle.zr_permit.specs.Result.{capped, ended_as, HasReplicated, is_done_transfer}
-use Rattle.zr_permit.specs.Sight.{HasEnded, HasJustBegun, Sight, Went}
+use Rattle.zr_permit.specs.Sight.{HasEnded, HasJustBegun, Went}
 use Rattle.zr_permit.specs.Transcript.{GoesOn, Turn}
 use Rattle.zr_permit.specs.Turned.{HasTurned, Records, RecordsRun, told_of, Turns}
 use Rattle.zr_permit.proofs.Ending.{at-work-more, begun-at-work, ended-on, ended-undone, went-nowhere, went-on}

@@ -1,5 +1,4 @@
-use Rattle.std.specs.Prelude.{◌≡◌, Bool, true, false, List, [], ◌∷◌, ◌++◌, ℕ, Some, None, Result, Ok, Err}
-use Rattle.std.specs.Option.{option_map_or}
+use Rattle.std.specs.Prelude.{◌≡◌, Bool, true, false, List, [], ◌∷◌, ◌++◌, ℕ, Some, Result, Ok, Err, option_map}
 use Rattle.zr_names.specs.declared.outcome.Outcome.{Outcome}
 use Rattle.zr_names.specs.declared.unit.Work.TheVariants as work
 use Rattle.zr_command.specs.declared.command.Answer.TheVariants.{Done}
@@ -88,8 +87,8 @@ pub record IsMarked (version : VersionName) (name : List ℕ) (before now : Know
 abbrev pub HasArrived : Transfer → Known → Known → Type 0
 HasArrived transfer before now =
     now ≡ record before {
-      target = presence_after before.target;
-      rows = option_map_or (λ rows. Some (rows ++ arrival transfer ∷ [])) before.rows None;
+      presence = presence_after before.presence;
+      arrived = option_map (λ arrived. arrived ++ arrival transfer ∷ []) before.arrived;
       transferred = true;
       receiving = Nothing;
     }

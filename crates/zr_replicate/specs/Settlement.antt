@@ -23,7 +23,7 @@ pub record IsNewest (known : Known) (newest : Newest) (last : VersionRow) : Type
   pub is_newest : newest_known known ≡ Some last
   pub named : last.name ≡ Snap newest.name
   pub of_guid : last.guid ≡ newest.guid
-  pub holds : HoldsKnown last known.target_holds newest.name
+  pub holds : HoldsKnown last known.target.asked newest.name
   pub no_partial : known.receiving ≡ Nothing
 
 abbrev pub is_bookmark : VersionRow → Bool
@@ -63,13 +63,17 @@ pub record IsSafe (pair : Pair) (known : Known) (newest : Newest) : Type 0 where
 -- no other mark of the job is left on the source, no other last-received hold on the target, and no step hold
 pub record IsAlone (pair : Pair) (known : Known) (newest : Newest) : Type 0 where
   pub marks : list_all (is_cursor_of pair.job newest.guid) known.marks ≡ true
-  pub last_held : list_all (λ other. same_text other newest.name) known.last_held ≡ true
-  pub step_held : known.step_held ≡ []
+  pub last_held : list_all (λ other. same_text other newest.name) known.target.held ≡ true
+  pub step_held : known.source.held ≡ []
 
 -- nothing but marks and holds has changed
 abbrev pub OnlyMarks : Known → Known → Type 0
 OnlyMarks before now =
-    now ≡ record before { marks = now.marks; last_held = now.last_held; step_held = now.step_held }
+    now ≡ record before {
+      marks = now.marks;
+      source = record before.source { held = now.source.held };
+      target = record before.target { held = now.target.held };
+    }
 
 abbrev pub is_any_cursor : MarkKind → Bool
 is_any_cursor (mark.Cursor guid) = true

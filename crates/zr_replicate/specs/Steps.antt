@@ -10,6 +10,7 @@ use Rattle.zr_plan.specs.declared.target.Planned.TheVariants.{Steps}
 use Rattle.zr_known.specs.declared.known.Known.{Known}
 use Rattle.zr_jobs.specs.declared.pair.Pair.{Pair}
 use Rattle.zr_known.specs.declared.known.Presence.TheVariants.{Absent}
+use Rattle.zr_known.specs.Known.{target_rows}
 use Rattle.zr_known.specs.declared.known.Receiving.TheVariants.{Nothing}
 use Rattle.zr_known.specs.Replication.{is_there}
 use Rattle.zr_known.specs.Straight.{has_known_holds}
@@ -19,24 +20,24 @@ use Rattle.zr_replicate.specs.Settlement.{IsAlone, IsSafe}
 -- the source was listed, with the holds of each of its snapshots, and it has one
 pub record HasSource (known : Known) : Type 0 where
   pub rows : List VersionRow
-  pub are_listed : known.source ≡ Some rows
+  pub are_listed : known.source.listing ≡ Some rows
   pub in_list : IsVersionList rows
-  pub holds : list_all (has_known_holds known.source_holds) rows ≡ true
+  pub holds : list_all (has_known_holds known.source.asked) rows ≡ true
   pub some : is_some (newest rows) ≡ true
 
 -- nothing was replicated yet
 pub record IsUntouched (known : Known) : Type 0 where
   pub source : HasSource known
-  pub absent : known.target ≡ Absent
-  pub no_rows : known.rows ≡ Some []
+  pub absent : known.presence ≡ Absent
+  pub no_rows : target_rows known ≡ Some []
   pub no_marks : known.marks ≡ []
-  pub no_step_holds : known.step_held ≡ []
+  pub no_step_holds : known.source.held ≡ []
   pub no_partial : known.receiving ≡ Nothing
 
 -- the target rests on this snapshot: there is nothing to settle
 pub record RestsOn (pair : Pair) (known : Known) (newest : Newest) : Type 0 where
   pub source : HasSource known
-  pub there : is_there known.target ≡ true
+  pub there : is_there known.presence ≡ true
   pub safe : IsSafe pair known newest
   pub alone : IsAlone pair known newest
 
@@ -68,7 +69,7 @@ pub record SendsRow (known : Known) (pair : Pair) (transfer : Transfer) (rows : 
 -- what was listed stays as it was
 pub record SameListings (before now : Known) : Type 0 where
   pub sets : now.sets ≡ before.sets
-  pub source : now.source ≡ before.source
-  pub source_holds : now.source_holds ≡ before.source_holds
-  pub listed : now.listed ≡ before.listed
-  pub target_holds : now.target_holds ≡ before.target_holds
+  pub source : now.source.listing ≡ before.source.listing
+  pub source_asked : now.source.asked ≡ before.source.asked
+  pub target : now.target.listing ≡ before.target.listing
+  pub target_asked : now.target.asked ≡ before.target.asked

@@ -1,54 +1,61 @@
 //! What a replication lists before it begins.
 
-ghost use Rattle.std.specs.Prelude.{◌≡◌, [], OnOk, true};
-ghost use Rattle.std.specs.Option.{option_map_or};
-ghost use Rattle.std.specs.List.{list_all};
-ghost use Rattle.zr_known.specs.Known.{is_among, nothing_known};
-ghost use Rattle.zr_known.specs.Straight.{has_known_holds};
-ghost use Rattle.zr_replicate.specs.Listing.{asked_at, HasAskedAll, HasListedAll, HasListedSets, HasListedSource, HasListedTarget, HasOnlyListed, IsShown, KnowsMoreHolds, listing_at, path_at, ShowsAt};
+ghost use Rattle.std.specs.Prelude.{◌≡◌, IfOk, OnOk, slice_get, true};
+ghost use Rattle.zr_known.specs.Known.{is_among, nothing_known, rows_of};
+ghost use Rattle.zr_replicate.specs.Listing.{asked_at, HasAskedAll, HasAskedAt, held_name, HasListedAll, HasListedSets, HasListedSource, HasListedTarget, HasOnlyListed, KnowsMoreHolds, listing_at, path_at, ShowsAt};
 ghost use Rattle.zr_replicate.specs.Progress.{AtWork, progress, Stage};
 
 use crate::commands;
 use crate::replication::Replication;
+use std::alloc::AllocError;
 use zr_command::{Cmd, VersionName, VersionRow};
 use zr_jobs::Pair;
 use zr_known::Known;
-use zr_names::{Outcome, Path, SnapName, same_items};
+use zr_names::{Outcome, Path, Same, SnapName};
 use zr_world::Zfs;
 
 /// One of the two datasets of a pair.
 #[derive(Clone, Copy, PartialEq, Eq)]
-pub(crate) enum Side {
+pub(crate) enum Role {
     Source,
     Target,
 }
 
-fn path_at(side: Side, pair: &Pair) -> &Path
+fn path_at(side: Role, pair: &Pair) -> &Path
     ensures { result.now ≡ path_at side pair.now }
 {
     match side {
-        Side::Source => &pair.source,
-        Side::Target => &pair.target,
+        Role::Source => &pair.source,
+        Role::Target => &pair.target,
     }
 }
 
 /// The rows of a side's last listing; none where it was not listed.
-fn rows_at(side: Side, known: &Known) -> &[VersionRow]
-    ensures { result.now ≡ option_map_or (λ rows. rows) (listing_at side known.now) [] }
+fn rows_at(side: Role, known: &Known) -> &[VersionRow]
+    ensures { result.now ≡ rows_of (listing_at side known.now) }
 {
-    let listing = match side {
-        Side::Source => &known.source,
-        Side::Target => &known.listed,
-    };
-    match listing {
-        Some(rows) => rows.as_slice(),
-        None => &[],
+    match side {
+        Role::Source => known.source.rows(),
+        Role::Target => known.target.rows(),
+    }
+}
+
+/// The name of the version at a place of a side's listing, where it is a snapshot that has holds.
+fn held_name(side: Role, known: &Known, place: usize) -> Result<Option<SnapName>, AllocError>
+    ensures { IfOk result (λ name. name ≡ held_name (slice_get (rows_of (listing_at side known.now)) place)) }
+{
+    match rows_at(side, known).get(place) {
+        Some(row) if row.refs > 0 => match &row.name {
+            VersionName::Snap(name) => Ok(Some(name.same()?)),
+            VersionName::Mark(_) => Ok(None),
+        },
+        Some(_) | None => Ok(None),
     }
 }
 
 impl<'a, 'b, Z: Zfs> Replication<'a, 'b, Z> {
     /// Lists the holds of a snapshot.
-    fn list_holds(&mut self, pair: &Pair, side: Side, name: &SnapName) -> Result<(), Outcome>
+    fn list_holds(&mut self, pair: &Pair, side: Role, name: &SnapName) -> Result<(), Outcome>
         requires at_work { AtWork pair.now (progress Z.Zfs self.old) }
         requires lists { HasOnlyListed (progress Z.Zfs self.old) }
         requires shown { ShowsAt side self.old.known.now name.now }
@@ -63,45 +70,24 @@ impl<'a, 'b, Z: Zfs> Replication<'a, 'b, Z> {
         }
     }
 
-    /// Lists the holds of one version, where it is a snapshot that has some.
-    fn list_holds_of(&mut self, pair: &Pair, side: Side, row: &VersionRow) -> Result<(), Outcome>
+    /// Lists the holds of the version at a place of a side's listing, where it is a snapshot that has some.
+    fn list_holds_at(&mut self, pair: &Pair, side: Role, place: usize) -> Result<(), Outcome>
         requires at_work { AtWork pair.now (progress Z.Zfs self.old) }
         requires lists { HasOnlyListed (progress Z.Zfs self.old) }
-        requires shown { IsShown side self.old.known.now row.now }
         ensures stage { Stage pair.now (progress Z.Zfs self.old) (progress Z.Zfs self.new) result }
         ensures lists { OnOk result (HasOnlyListed (progress Z.Zfs self.new)) }
         ensures more { OnOk result (KnowsMoreHolds side self.old.known.now self.new.known.now) }
-        ensures asked { OnOk result (has_known_holds (asked_at side self.new.known.now) row.now ≡ true) }
+        ensures asked { OnOk result (HasAskedAt side place self.new.known.now) }
     {
-        match &row.name {
-            VersionName::Snap(name) if row.refs > 0 => self.list_holds(pair, side, name),
-            VersionName::Snap(_) | VersionName::Mark(_) => Ok(()),
+        match held_name(side, self.known, place) {
+            Ok(Some(name)) => self.list_holds(pair, side, &name),
+            Ok(None) => Ok(()),
+            Err(_) => Err(self.unit.out_of_memory()),
         }
-    }
-
-    /// Lists the holds of each of these versions that is a snapshot with some.
-    fn list_holds_of_all(
-        &mut self,
-        pair: &Pair,
-        side: Side,
-        rows: &[VersionRow],
-    ) -> Result<(), Outcome>
-        requires at_work { AtWork pair.now (progress Z.Zfs self.old) }
-        requires lists { HasOnlyListed (progress Z.Zfs self.old) }
-        requires shown { option_map_or (λ rows. rows) (listing_at side self.old.known.now) [] ≡ rows.now }
-        ensures stage { Stage pair.now (progress Z.Zfs self.old) (progress Z.Zfs self.new) result }
-        ensures lists { OnOk result (HasOnlyListed (progress Z.Zfs self.new)) }
-        ensures more { OnOk result (KnowsMoreHolds side self.old.known.now self.new.known.now) }
-        ensures asked { OnOk result (list_all (has_known_holds (asked_at side self.new.known.now)) rows.now ≡ true) }
-    {
-        for row in rows {
-            self.list_holds_of(pair, side, row)?;
-        }
-        Ok(())
     }
 
     /// Lists the holds of each snapshot of a side that was listed with some.
-    fn list_side_holds(&mut self, pair: &Pair, side: Side) -> Result<(), Outcome>
+    fn list_side_holds(&mut self, pair: &Pair, side: Role) -> Result<(), Outcome>
         requires at_work { AtWork pair.now (progress Z.Zfs self.old) }
         requires lists { HasOnlyListed (progress Z.Zfs self.old) }
         ensures stage { Stage pair.now (progress Z.Zfs self.old) (progress Z.Zfs self.new) result }
@@ -109,10 +95,11 @@ impl<'a, 'b, Z: Zfs> Replication<'a, 'b, Z> {
         ensures more { OnOk result (KnowsMoreHolds side self.old.known.now self.new.known.now) }
         ensures asked { OnOk result (HasAskedAll side self.new.known.now) }
     {
-        match same_items(self.alloc, rows_at(side, self.known)) {
-            Ok(rows) => self.list_holds_of_all(pair, side, rows.as_slice()),
-            Err(_) => Err(self.unit.out_of_memory()),
+        let count = rows_at(side, self.known).len();
+        for place in 0..count {
+            self.list_holds_at(pair, side, place)?;
         }
+        Ok(())
     }
 
     /// Lists the datasets.
@@ -177,7 +164,7 @@ impl<'a, 'b, Z: Zfs> Replication<'a, 'b, Z> {
         self.list_sets(pair)?;
         self.list_source(pair)?;
         self.list_target(pair)?;
-        self.list_side_holds(pair, Side::Source)?;
-        self.list_side_holds(pair, Side::Target)
+        self.list_side_holds(pair, Role::Source)?;
+        self.list_side_holds(pair, Role::Target)
     }
 }

@@ -6,7 +6,7 @@ ghost use Rattle.std.specs.Option.{option_copied};
 ghost use Rattle.zr_names.specs.Marks.{cursor_text, mark_kind};
 ghost use Rattle.zr_names.specs.declared.marks.MarkKind.TheVariants.{Cursor};
 ghost use Rattle.zr_command.specs.Kinds.{is_cursor_of, kind_in};
-ghost use Rattle.zr_known.specs.Known.{is_among};
+ghost use Rattle.zr_known.specs.Known.{is_among, with_last_held, with_step_held};
 ghost use Rattle.zr_replicate.specs.Settlement.{first_other, HasCursor, is_any_cursor, is_bookmark, IsAlone, IsOtherMark, IsOtherName, IsSafe, OnlyMarks, SettlesFrom};
 ghost use Rattle.zr_replicate.specs.Progress.{AtWork, progress, Stage};
 ghost use Rattle.zr_command.specs.Names.{same_text};
@@ -61,7 +61,7 @@ impl<'a, 'b, Z: Zfs> Replication<'a, 'b, Z> {
         requires may { HasCursor pair.now self.old.known.now newest.now }
         ensures stage { Stage pair.now (progress Z.Zfs self.old) (progress Z.Zfs self.new) result }
         ensures safe { OnOk result (IsSafe pair.now self.new.known.now newest.now) }
-        ensures only { OnOk result (self.new.known.now ≡ record self.old.known.now { last_held = self.new.known.now.last_held }) }
+        ensures only { OnOk result (self.new.known.now ≡ with_last_held self.new.known.now.target.held self.old.known.now) }
     {
         if self.known.is_last_held(&newest.name) {
             Ok(())
@@ -80,10 +80,10 @@ fn first_other_name<'a>(names: &'a [SnapName], name: &SnapName) -> Option<&'a Sn
 /// The next snapshot of the target to lose its last-received hold.
 fn other_last(known: &Known, newest: &Newest) -> Result<Option<SnapName>, AllocError>
     ensures { IfOk result (λ other. MatchOption other
-        (list_all (λ other. same_text other newest.now.name) known.now.last_held ≡ true)
-        (IsOtherName known.now.last_held newest.now.name)) }
+        (list_all (λ other. same_text other newest.now.name) known.now.target.held ≡ true)
+        (IsOtherName known.now.target.held newest.now.name)) }
 {
-    match first_other_name(known.last_held.as_slice(), &newest.name) {
+    match first_other_name(known.target.held.as_slice(), &newest.name) {
         Some(name) => Ok(Some(name.same()?)),
         None => Ok(None),
     }
@@ -96,8 +96,8 @@ impl<'a, 'b, Z: Zfs> Replication<'a, 'b, Z> {
         requires safe { IsSafe pair.now self.old.known.now newest.now }
         ensures stage { Stage pair.now (progress Z.Zfs self.old) (progress Z.Zfs self.new) result }
         ensures safe { OnOk result (IsSafe pair.now self.new.known.now newest.now) }
-        ensures alone { OnOk result (list_all (λ other. same_text other newest.now.name) self.new.known.now.last_held ≡ true) }
-        ensures only { OnOk result (self.new.known.now ≡ record self.old.known.now { last_held = self.new.known.now.last_held }) }
+        ensures alone { OnOk result (list_all (λ other. same_text other newest.now.name) self.new.known.now.target.held ≡ true) }
+        ensures only { OnOk result (self.new.known.now ≡ with_last_held self.new.known.now.target.held self.old.known.now) }
     {
         loop {
             match other_last(self.known, newest) {
@@ -185,10 +185,10 @@ fn first_name(names: &[SnapName]) -> Option<&SnapName>
 
 /// The next source snapshot to lose its step hold.
 fn held_step(known: &Known) -> Result<Option<SnapName>, AllocError>
-    ensures { IfOk result (λ held. MatchOption held (known.now.step_held ≡ [])
-        (λ name. is_among known.now.step_held name ≡ true)) }
+    ensures { IfOk result (λ held. MatchOption held (known.now.source.held ≡ [])
+        (λ name. is_among known.now.source.held name ≡ true)) }
 {
-    match first_name(known.step_held.as_slice()) {
+    match first_name(known.source.held.as_slice()) {
         Some(name) => Ok(Some(name.same()?)),
         None => Ok(None),
     }
@@ -201,8 +201,8 @@ impl<'a, 'b, Z: Zfs> Replication<'a, 'b, Z> {
         requires safe { IsSafe pair.now self.old.known.now newest.now }
         ensures stage { Stage pair.now (progress Z.Zfs self.old) (progress Z.Zfs self.new) result }
         ensures safe { OnOk result (IsSafe pair.now self.new.known.now newest.now) }
-        ensures alone { OnOk result (self.new.known.now.step_held ≡ []) }
-        ensures only { OnOk result (self.new.known.now ≡ record self.old.known.now { step_held = self.new.known.now.step_held }) }
+        ensures alone { OnOk result (self.new.known.now.source.held ≡ []) }
+        ensures only { OnOk result (self.new.known.now ≡ with_step_held self.new.known.now.source.held self.old.known.now) }
     {
         loop {
             match held_step(self.known) {

@@ -2,7 +2,7 @@
 
 ghost use Rattle.std.specs.Prelude.{◌≡◌, ◌++◌, ◌∷◌, [], OnOk, filter, not, true};
 ghost use Rattle.zr_command.specs.Kinds.{kind_in};
-ghost use Rattle.zr_known.specs.Known.{arrival, is_own_kind, is_row_of, presence_after, set_among, without_name};
+ghost use Rattle.zr_known.specs.Known.{arrival, is_own_kind, is_row_of, presence_after, set_among, with_last_held, with_step_held, without_name};
 ghost use Rattle.zr_known.specs.Replication.{MayDestroyMark, MayHoldLast, MayHoldStep, MayMark, MayReleaseLast, MayReleaseStep, MayTransfer};
 ghost use Rattle.zr_known.specs.declared.known.Receiving.TheVariants.{Nothing};
 ghost use Rattle.zr_replicate.specs.Progress.{AtWork, HasArrived, IsMarked, progress, Stage};
@@ -22,7 +22,7 @@ impl<'a, 'b, Z: Zfs> Replication<'a, 'b, Z> {
         requires may { MayHoldStep self.old.known.now name.now }
         ensures stage { Stage pair.now (progress Z.Zfs self.old) (progress Z.Zfs self.new) result }
         ensures known { OnOk result (self.new.known.now ≡
-            record self.old.known.now { step_held = set_among true name.now self.old.known.now.step_held }) }
+            with_step_held (set_among true name.now self.old.known.now.source.held) self.old.known.now) }
     {
         match commands::step_hold(pair, name) {
             Ok(cmd) => self.change(pair, cmd),
@@ -36,7 +36,7 @@ impl<'a, 'b, Z: Zfs> Replication<'a, 'b, Z> {
         requires may { MayHoldLast pair.now self.old.known.now name.now }
         ensures stage { Stage pair.now (progress Z.Zfs self.old) (progress Z.Zfs self.new) result }
         ensures known { OnOk result (self.new.known.now ≡
-            record self.old.known.now { last_held = set_among true name.now self.old.known.now.last_held }) }
+            with_last_held (set_among true name.now self.old.known.now.target.held) self.old.known.now) }
     {
         match commands::last_hold(pair, name) {
             Ok(cmd) => self.change(pair, cmd),
@@ -50,7 +50,7 @@ impl<'a, 'b, Z: Zfs> Replication<'a, 'b, Z> {
         requires may { MayReleaseLast self.old.known.now name.now }
         ensures stage { Stage pair.now (progress Z.Zfs self.old) (progress Z.Zfs self.new) result }
         ensures known { OnOk result (self.new.known.now ≡
-            record self.old.known.now { last_held = without_name name.now self.old.known.now.last_held }) }
+            with_last_held (without_name name.now self.old.known.now.target.held) self.old.known.now) }
     {
         match commands::last_release(pair, name) {
             Ok(cmd) => self.change(pair, cmd),
@@ -64,7 +64,7 @@ impl<'a, 'b, Z: Zfs> Replication<'a, 'b, Z> {
         requires may { MayReleaseStep pair.now self.old.known.now name.now }
         ensures stage { Stage pair.now (progress Z.Zfs self.old) (progress Z.Zfs self.new) result }
         ensures known { OnOk result (self.new.known.now ≡
-            record self.old.known.now { step_held = without_name name.now self.old.known.now.step_held }) }
+            with_step_held (without_name name.now self.old.known.now.source.held) self.old.known.now) }
     {
         match commands::step_release(pair, name) {
             Ok(cmd) => self.change(pair, cmd),

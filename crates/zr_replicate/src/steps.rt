@@ -123,7 +123,7 @@ impl<'a, 'b, Z: Zfs> Replication<'a, 'b, Z> {
         ensures same { OnOk result (SameListings self.old.known.now self.new.known.now) }
         ensures up_to_date { OnOk result (plan_known pair.now self.new.known.now ≡ Some UpToDate) }
     {
-        if !matches!(self.known.target, Presence::Absent) {
+        if !matches!(self.known.presence, Presence::Absent) {
             return self.all_steps(pair);
         }
         self.first_step(pair)?;

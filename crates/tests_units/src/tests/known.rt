@@ -44,6 +44,16 @@ The pool of the target is not imported.
   holds p/a b: zrepl_STEP_J_push => is listed; may sendb stepa
   sets: p/a q => is listed; may sendb stepa unstepb unmark1
 
+what_is_known_of_a_target_goes_with_its_row
+The target is gone, and comes back without the hold that it had.
+  sets: p/a q q/p q/p/a => is; may
+  versions p/a: @a:1:1:10:0 #zrepl_CURSOR_G_0000000000000001_J_push:1:1:10:0 @b:2:2:20:0 => is; may stepa stepb
+  versions q/p/a: @a:1:1:10:1 => is; may nextb-1 stepa stepb
+  holds q/p/a a: zrepl_last_received_J_push => is listed straight rest; may nextb-1 stepa stepb
+  sets: p/a q q/p => is listed; may nextb stepa stepb unmark1
+  sets: p/a q q/p q/p/a => is; may stepa stepb
+  versions q/p/a: @a:1:1:10:0 => is listed; may nextb-1 stepa lasta stepb
+
 holds_count_where_the_job_puts_them
 A step hold counts on the source alone, and a last-received hold on the target alone.
   sets: p/a q q/p q/p/a => is; may

@@ -1,6 +1,3 @@
-use Rattle.std.proofs.Common.{sym, subst, rules}
-use Rattle.zr_names.specs.declared.outcome.Outcome.{Outcome}
-use Rattle.zr_permit.specs.Sight.{HasEnded, sight}
 use Rattle.zr_permit.proofs.Ending.{begun-at-work}
 use Rattle.zr_replicate.proofs.Turning.{begins-at-work}
 use Rattle.zr_replicate.proofs.replication.replicate.Goals as goal

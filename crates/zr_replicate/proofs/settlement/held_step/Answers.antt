@@ -6,10 +6,10 @@ use Rattle.zr_replicate.proofs.settlement.held_step.Goals as goal
 
 pub returns-in_ok-same-in-Some : goal.returns-in_ok-same-in-Some
 returns-in_ok-same-in-Some c =
-    let held = c.args.known.now.step_held in
+    let held = c.args.known.now.source.held in
     let first = ap (λ (names : List (List ℕ)). slice_get names 0) (sym c.as_slice.ensures) ∙ sym c.in-Some.ensures in
     subst (λ (name : List ℕ). is_among held name ≡ true) (sym c.in_ok-same-in-Some.ensures) (first-among held c.in-Some.name.now first)
 
 pub returns-in-None : goal.returns-in-None
 returns-in-None c =
-    none-first c.args.known.now.step_held (ap (λ (names : List (List ℕ)). slice_get names 0) (sym c.as_slice.ensures) ∙ sym c.in-None.ensures)
+    none-first c.args.known.now.source.held (ap (λ (names : List (List ℕ)). slice_get names 0) (sym c.as_slice.ensures) ∙ sym c.in-None.ensures)

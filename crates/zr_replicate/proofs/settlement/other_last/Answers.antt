@@ -6,7 +6,7 @@ use Rattle.zr_replicate.proofs.settlement.other_last.Goals as goal
 
 pub returns-in_ok-same-in-Some : goal.returns-in_ok-same-in-Some
 returns-in_ok-same-in-Some c =
-    let held = c.args.known.now.last_held in
+    let held = c.args.known.now.target.held in
     let own = c.args.newest.now.name in
     let found = ap (find (λ (other : List ℕ). not (same_text other own))) (sym c.as_slice.ensures) ∙ sym c.in-Some.ensures in
     subst (λ (name : List ℕ). IsOtherName held own name) (sym c.in_ok-same-in-Some.ensures) (other-name held own c.in-Some.name.now found)
@@ -14,4 +14,4 @@ returns-in_ok-same-in-Some c =
 pub returns-in-None : goal.returns-in-None
 returns-in-None c =
     let own = c.args.newest.now.name in
-    no-other-name c.args.known.now.last_held own (ap (find (λ (other : List ℕ). not (same_text other own))) (sym c.as_slice.ensures) ∙ sym c.in-None.ensures)
+    no-other-name c.args.known.now.target.held own (ap (find (λ (other : List ℕ). not (same_text other own))) (sym c.as_slice.ensures) ∙ sym c.in-None.ensures)

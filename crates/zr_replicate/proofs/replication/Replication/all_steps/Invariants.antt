@@ -1,4 +1,3 @@
-use Rattle.std.proofs.Common.{◌≡◌}
 use Rattle.zr_known.specs.Replication.{plan_known}
 use Rattle.zr_replicate.specs.Steps.{IsAtRest, SameListings, step_count}
 use Rattle.zr_replicate.specs.Progress.{GoesOnWith, progress}

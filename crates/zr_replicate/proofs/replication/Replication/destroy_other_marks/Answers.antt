@@ -1,4 +1,4 @@
-use Rattle.std.proofs.Common.{◌∙◌, ap, rules}
+use Rattle.std.proofs.Common.{ap, rules}
 use Rattle.zr_known.specs.declared.known.Known.{Known}
 use Rattle.zr_replicate.proofs.Lists.{match-some}
 use Rattle.zr_replicate.proofs.Marking.{destroyed-safe, fewer-marks, marks-again, may-destroy}

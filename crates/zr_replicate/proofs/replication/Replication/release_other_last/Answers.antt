@@ -1,4 +1,4 @@
-use Rattle.std.proofs.Common.{◌∙◌, ap, rules}
+use Rattle.std.proofs.Common.{ap, rules}
 use Rattle.zr_known.specs.declared.known.Known.{Known}
 use Rattle.zr_replicate.proofs.Lists.{match-some}
 use Rattle.zr_replicate.proofs.Marking.{fewer-names, last-again, may-release_last, released-safe}
@@ -11,7 +11,7 @@ release_last-requires-clause-may g c =
 
 pub loop-name-smaller : goal.loop-name-smaller
 loop-name-smaller g c =
-    fewer-names c.in-Ok-Some.name _ _ (match-some _ _ c.in-Ok-Some.field-0 c.in-Ok-Some.name c.in-Ok-Some.field-0-is c.in-Ok-Some.ensures).among (ap (λ (k : Known). k.last_held) c.in_ok-release_last-in-Ok-Some.ensures.known)
+    fewer-names c.in-Ok-Some.name _ _ (match-some _ _ c.in-Ok-Some.field-0 c.in-Ok-Some.name c.in-Ok-Some.field-0-is c.in-Ok-Some.ensures).among (ap (λ (k : Known). k.target.held) c.in_ok-release_last-in-Ok-Some.ensures.known)
 
 pub loop-name-preserved : goal.loop-name-preserved
 loop-name-preserved g c =
