@@ -112,9 +112,9 @@ no-fault : false ≡ true → ⊥
 no-fault e = cc
 
 -- a unit that has finished has ended with the number of its transfers
-pub finished_ended : (pair : Pair) (now : Progress) (ended : Outcome) → AtWork pair now → IsFinished pair now.known → ended ≡ finished_with (capped (count_by (λ (turn : Turn). is_done_transfer turn.0 turn.1) now.unit.turns)) → HasEnded now.unit now.unit ended
+pub finished_ended : (pair : Pair) (now : Progress) (ended : Outcome) → AtWork pair now → IsFinished pair now.known → ended ≡ finished_with (capped (count_by (λ (turn : Turn). is_done_transfer turn.0 turn.1) now.unit.turns)) → HasEndedAs now now ended
 finished_ended pair now ended at finished is =
-    subst (λ (o : Outcome). HasEnded now.unit now.unit o) (sym is) (by (steps == 0) refl) where
+    record { ended = subst (λ (o : Outcome). HasEnded now.unit now.unit o) (sym is) (by (steps == 0) refl); same_lent = refl } where
       steps : ℕ
       steps = capped (count_by (λ (turn : Turn). is_done_transfer turn.0 turn.1) now.unit.turns)
 

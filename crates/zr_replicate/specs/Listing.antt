@@ -46,6 +46,9 @@ abbrev pub held_name : Option VersionRow → Option (List ℕ)
 held_name None = None
 held_name (Some row) = held_name_of row.refs row.name
 
+abbrev pub held_at : Role → Known → ℕ → Option (List ℕ)
+held_at side known place = held_name (slice_get (rows_of (listing_at side known)) place)
+
 -- only what is known of a side's holds has changed
 abbrev pub OnlyHolds : Role → Known → Known → Type 0
 OnlyHolds Source before now =

@@ -1,10 +1,11 @@
-use Rattle.std.specs.Prelude.{◌≡◌, Bool, true, false, List, [], ◌∷◌, ◌++◌, ℕ, Some, Result, Ok, Err, option_map}
+use Rattle.std.specs.Prelude.{◌≡◌, Bool, true, false, List, [], ◌∷◌, ◌++◌, ℕ, Some, Result, Ok, Err, filter, not, option_map}
 use Rattle.zr_names.specs.declared.outcome.Outcome.{Outcome}
 use Rattle.zr_names.specs.declared.unit.Work.TheVariants as work
 use Rattle.zr_command.specs.declared.command.Answer.TheVariants.{Done}
 use Rattle.zr_command.specs.declared.command.Cmd.{Cmd}
 use Rattle.zr_command.specs.declared.command.Cmd.TheVariants as cmd
 use Rattle.zr_command.specs.declared.command.Reply.{Reply}
+use Rattle.zr_command.specs.declared.command.Reply.TheVariants as reply
 use Rattle.zr_command.specs.declared.command.Transfer.{Transfer}
 use Rattle.zr_command.specs.declared.version.VersionName.{VersionName}
 use Rattle.zr_command.specs.declared.version.VersionName.TheVariants.{Mark}
@@ -14,7 +15,7 @@ use Rattle.zr_jobs.specs.declared.pair.Pair.{Pair}
 use Rattle.zr_jobs.specs.Jobs.{job_at, pair_of}
 use Rattle.zr_known.specs.declared.known.Known.{Known}
 use Rattle.zr_known.specs.declared.known.Receiving.TheVariants.{Nothing}
-use Rattle.zr_known.specs.Known.{arrival, known_of, presence_after, source_row, told_by}
+use Rattle.zr_known.specs.Known.{arrival, is_row_of, known_of, presence_after, set_among, source_row, told_by, with_last_held, with_step_held}
 use Rattle.zr_permit.specs.Sight.{Follows, HasEnded, IsAtWork, Sight, sight, Went}
 use Rattle.zr_world.specs.declared.zfs.Zfs.{Ghosts}
 use Rattle.zr_replicate.specs.declared.replication.Replication.{Replication}
@@ -76,6 +77,22 @@ is_change cmd.Sets = false
 is_change (cmd.Versions path) = false
 is_change (cmd.Holds path name) = false
 is_change other = true
+
+-- a command that changes something was done, and tells no more than that
+abbrev pub HasDone : Pair → Cmd → Known → Known → Type 0
+HasDone pair command before now = now ≡ told_by pair command (Done reply.Nothing) before
+
+-- the job's hold was put on a snapshot of the source, or taken off; the same of the target
+abbrev pub StepHoldIs : Bool → List ℕ → Known → Known → Type 0
+StepHoldIs held name before now = now ≡ with_step_held (set_among held name before.source.held) before
+
+abbrev pub LastHoldIs : Bool → List ℕ → Known → Known → Type 0
+LastHoldIs held name before now = now ≡ with_last_held (set_among held name before.target.held) before
+
+-- a bookmark was destroyed
+abbrev pub IsUnmarked : List ℕ → Known → Known → Type 0
+IsUnmarked name before now =
+    now ≡ record before { marks = filter (λ row. not (is_row_of (Mark name) row)) before.marks }
 
 -- a bookmark of this name was made from a version: it stands among the marks as that version, without holds
 pub record IsMarked (version : VersionName) (name : List ℕ) (before now : Known) : Type 0 where

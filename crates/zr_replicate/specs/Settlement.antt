@@ -13,7 +13,7 @@ use Rattle.zr_command.specs.Kinds.{is_cursor, is_cursor_of, is_snap, kind_in}
 use Rattle.zr_known.specs.declared.known.Known.{Known}
 use Rattle.zr_jobs.specs.declared.pair.Pair.{Pair}
 use Rattle.zr_known.specs.declared.known.Receiving.TheVariants.{Nothing}
-use Rattle.zr_known.specs.Known.{is_among, is_row_of}
+use Rattle.zr_known.specs.Known.{is_among, is_row_of, with_last_held, with_step_held}
 use Rattle.zr_known.specs.Deciding.{cursor_source, MakesCursor}
 use Rattle.zr_known.specs.Replication.{HoldsKnown, IsSettled, newest_known}
 use Rattle.zr_replicate.specs.declared.settlement.Newest.{Newest}
@@ -60,13 +60,30 @@ pub record IsSafe (pair : Pair) (known : Known) (newest : Newest) : Type 0 where
   pub no_partial : known.receiving ≡ Nothing
   pub bookmarks : list_all is_bookmark known.marks ≡ true
 
+-- no last-received hold is left on another snapshot of the target; no other mark of the job is left on the source
+abbrev pub HasNoOtherHold : Newest → Known → Type 0
+HasNoOtherHold newest known = list_all (λ other. same_text other newest.name) known.target.held ≡ true
+
+abbrev pub HasNoOtherMark : Pair → Newest → Known → Type 0
+HasNoOtherMark pair newest known = list_all (is_cursor_of pair.job newest.guid) known.marks ≡ true
+
 -- no other mark of the job is left on the source, no other last-received hold on the target, and no step hold
 pub record IsAlone (pair : Pair) (known : Known) (newest : Newest) : Type 0 where
-  pub marks : list_all (is_cursor_of pair.job newest.guid) known.marks ≡ true
-  pub last_held : list_all (λ other. same_text other newest.name) known.target.held ≡ true
+  pub marks : HasNoOtherMark pair newest known
+  pub last_held : HasNoOtherHold newest known
   pub step_held : known.source.held ≡ []
 
--- nothing but marks and holds has changed
+-- nothing but the job's marks, its last-received holds or its step holds has changed
+abbrev pub OnlyItsMarks : Known → Known → Type 0
+OnlyItsMarks before now = now ≡ record before { marks = now.marks }
+
+abbrev pub OnlyLastHolds : Known → Known → Type 0
+OnlyLastHolds before now = now ≡ with_last_held now.target.held before
+
+abbrev pub OnlyStepHolds : Known → Known → Type 0
+OnlyStepHolds before now = now ≡ with_step_held now.source.held before
+
+-- nothing but these has changed
 abbrev pub OnlyMarks : Known → Known → Type 0
 OnlyMarks before now =
     now ≡ record before {
@@ -81,10 +98,14 @@ is_any_cursor (mark.Tentative guid) = false
 is_any_cursor mark.OldCursor = false
 is_any_cursor mark.Other = false
 
+-- a cursor of the job that is not the one of a guid
+abbrev pub is_other_cursor : List ℕ → Guid → VersionRow → Bool
+is_other_cursor job guid row = is_any_cursor (kind_in job row.name) && not (is_cursor_of job guid row)
+
 -- the first mark that is not the job's cursor of a guid: cursors come before tentative cursors
 abbrev pub first_other : List ℕ → Guid → List VersionRow → Option VersionRow
 first_other job guid marks =
-    option_or (find (λ row. is_any_cursor (kind_in job row.name) && not (is_cursor_of job guid row)) marks)
+    option_or (find (is_other_cursor job guid) marks)
     (find (λ row. not (is_cursor_of job guid row)) marks)
 
 -- a mark of the job that is not the newest snapshot's cursor

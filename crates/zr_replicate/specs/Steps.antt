@@ -1,4 +1,4 @@
-use Rattle.std.specs.Prelude.{◌≡◌, ◌⊎◌, ℕ, List, [], Option, Some, Contains, is_some, length, true}
+use Rattle.std.specs.Prelude.{◌≡◌, ◌<◌, ◌⊎◌, ℕ, List, [], Option, Some, Contains, is_some, length, true}
 use Rattle.std.specs.List.{list_all}
 use Rattle.zr_command.specs.declared.command.Transfer.{Transfer}
 use Rattle.zr_command.specs.declared.version.VersionName.TheVariants.{Snap}
@@ -12,7 +12,7 @@ use Rattle.zr_jobs.specs.declared.pair.Pair.{Pair}
 use Rattle.zr_known.specs.declared.known.Presence.TheVariants.{Absent}
 use Rattle.zr_known.specs.Known.{target_rows}
 use Rattle.zr_known.specs.declared.known.Receiving.TheVariants.{Nothing}
-use Rattle.zr_known.specs.Replication.{is_there}
+use Rattle.zr_known.specs.Replication.{is_there, plan_known}
 use Rattle.zr_known.specs.Straight.{has_known_holds}
 use Rattle.zr_replicate.specs.declared.settlement.Newest.{Newest}
 use Rattle.zr_replicate.specs.Settlement.{IsAlone, IsSafe}
@@ -57,6 +57,11 @@ IsReady pair known = IsUntouched known ⊎ IsAtRest pair known
 abbrev pub step_count : Option Planned → ℕ
 step_count (Some (Steps steps)) = length steps
 step_count other = 0
+
+-- fewer steps are planned than were, where nothing was to settle before
+abbrev pub AreFewerSteps : Pair → Known → Known → Type 0
+AreFewerSteps pair before now =
+    IsAtRest pair before → step_count (plan_known pair now) < step_count (plan_known pair before)
 
 -- a transfer sends a snapshot that the source was listed with
 pub record SendsRow (known : Known) (pair : Pair) (transfer : Transfer) (rows : List VersionRow) : Type 0 where

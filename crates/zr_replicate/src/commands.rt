@@ -10,19 +10,19 @@ use zr_jobs::Pair;
 use zr_names::{MarkName, Path, Same, SnapName, TagKind};
 
 pub(crate) fn versions(path: &Path) -> Result<Cmd, AllocError>
-    ensures { IfOk result (λ command. command ≡ cmd.Versions path.now) }
+    ensures { IfOk result (λ c. c ≡ cmd.Versions path.now) }
 {
     Ok(Cmd::Versions(path.same()?))
 }
 
 pub(crate) fn holds(path: &Path, name: &SnapName) -> Result<Cmd, AllocError>
-    ensures { IfOk result (λ command. command ≡ cmd.Holds path.now name.now) }
+    ensures { IfOk result (λ c. c ≡ cmd.Holds path.now name.now) }
 {
     Ok(Cmd::Holds(path.same()?, name.same()?))
 }
 
 pub(crate) fn step_hold(pair: &Pair, name: &SnapName) -> Result<Cmd, AllocError>
-    ensures { IfOk result (λ command. command ≡ cmd.Hold Step pair.now.job pair.now.source name.now) }
+    ensures { IfOk result (λ c. c ≡ cmd.Hold Step pair.now.job pair.now.source name.now) }
 {
     Ok(Cmd::Hold(
         TagKind::Step,
@@ -33,7 +33,7 @@ pub(crate) fn step_hold(pair: &Pair, name: &SnapName) -> Result<Cmd, AllocError>
 }
 
 pub(crate) fn last_hold(pair: &Pair, name: &SnapName) -> Result<Cmd, AllocError>
-    ensures { IfOk result (λ command. command ≡ cmd.Hold Last pair.now.job pair.now.target name.now) }
+    ensures { IfOk result (λ c. c ≡ cmd.Hold Last pair.now.job pair.now.target name.now) }
 {
     Ok(Cmd::Hold(
         TagKind::Last,
@@ -44,7 +44,7 @@ pub(crate) fn last_hold(pair: &Pair, name: &SnapName) -> Result<Cmd, AllocError>
 }
 
 pub(crate) fn step_release(pair: &Pair, name: &SnapName) -> Result<Cmd, AllocError>
-    ensures { IfOk result (λ command. command ≡ cmd.Release Step pair.now.job pair.now.source name.now) }
+    ensures { IfOk result (λ c. c ≡ cmd.Release Step pair.now.job pair.now.source name.now) }
 {
     Ok(Cmd::Release(
         TagKind::Step,
@@ -55,7 +55,7 @@ pub(crate) fn step_release(pair: &Pair, name: &SnapName) -> Result<Cmd, AllocErr
 }
 
 pub(crate) fn last_release(pair: &Pair, name: &SnapName) -> Result<Cmd, AllocError>
-    ensures { IfOk result (λ command. command ≡ cmd.Release Last pair.now.job pair.now.target name.now) }
+    ensures { IfOk result (λ c. c ≡ cmd.Release Last pair.now.job pair.now.target name.now) }
 {
     Ok(Cmd::Release(
         TagKind::Last,
@@ -70,13 +70,13 @@ pub(crate) fn bookmark(
     version: &VersionName,
     name: &MarkName,
 ) -> Result<Cmd, AllocError>
-    ensures { IfOk result (λ command. command ≡ cmd.Bookmark pair.now.source version.now name.now) }
+    ensures { IfOk result (λ c. c ≡ cmd.Bookmark pair.now.source version.now name.now) }
 {
     Ok(Cmd::Bookmark(pair.source.same()?, version.same()?, name.same()?))
 }
 
 pub(crate) fn destroy_mark(pair: &Pair, name: &MarkName) -> Result<Cmd, AllocError>
-    ensures { IfOk result (λ command. command ≡ cmd.DestroyMark pair.now.source name.now) }
+    ensures { IfOk result (λ c. c ≡ cmd.DestroyMark pair.now.source name.now) }
 {
     Ok(Cmd::DestroyMark(pair.source.same()?, name.same()?))
 }

@@ -2,7 +2,7 @@
 
 ghost use Rattle.std.specs.Prelude.{◌≡◌, IfOk, OnOk, slice_get, true};
 ghost use Rattle.zr_known.specs.Known.{is_among, nothing_known, rows_of};
-ghost use Rattle.zr_replicate.specs.Listing.{asked_at, HasAskedAll, HasAskedAt, held_name, HasListedAll, HasListedSets, HasListedSource, HasListedTarget, HasOnlyListed, KnowsMoreHolds, listing_at, path_at, ShowsAt};
+ghost use Rattle.zr_replicate.specs.Listing.{asked_at, HasAskedAll, HasAskedAt, held_at, HasListedAll, HasListedSets, HasListedSource, HasListedTarget, HasOnlyListed, KnowsMoreHolds, listing_at, path_at, ShowsAt};
 ghost use Rattle.zr_replicate.specs.Progress.{AtWork, progress, Stage};
 
 use crate::commands;
@@ -42,7 +42,7 @@ fn rows_at(side: Role, known: &Known) -> &[VersionRow]
 
 /// The name of the version at a place of a side's listing, where it is a snapshot that has holds.
 fn held_name(side: Role, known: &Known, place: usize) -> Result<Option<SnapName>, AllocError>
-    ensures { IfOk result (λ name. name ≡ held_name (slice_get (rows_of (listing_at side known.now)) place)) }
+    ensures { IfOk result (λ name. name ≡ held_at side known.now place) }
 {
     match rows_at(side, known).get(place) {
         Some(row) if row.refs > 0 => match &row.name {

@@ -10,7 +10,7 @@ ghost use Rattle.zr_permit.specs.Sight.{HasEnded, HasJustBegun, sight};
 ghost use Rattle.zr_permit.specs.Transcript.{Turn};
 ghost use Rattle.zr_command.specs.declared.command.Answer.TheVariants.{Done};
 ghost use Rattle.zr_command.specs.declared.command.Reply.TheVariants as reply;
-ghost use Rattle.zr_replicate.specs.Progress.{AtWork, HasEndedAs, HasTold, is_change, Learnt, progress, Stage};
+ghost use Rattle.zr_replicate.specs.Progress.{AtWork, HasDone, HasEndedAs, HasTold, is_change, Learnt, progress, Stage};
 ghost use Rattle.zr_replicate.specs.Outcomes.{either_of, finished_with, IsPairOf, IsReplicate};
 
 use std::alloc::Global;
@@ -52,7 +52,8 @@ impl<'a, 'b, Z: Zfs> Replication<'a, 'b, Z> {
         requires at_work { AtWork pair.now (progress Z.Zfs self.old) }
         requires may { MayGive pair.now self.old.known.now cmd }
         ensures stage { Stage pair.now (progress Z.Zfs self.old) (progress Z.Zfs self.new) result }
-        ensures told { OnOk result (HasTold pair.now cmd (progress Z.Zfs self.old) (progress Z.Zfs self.new)) }
+        ensures told { OnOk result
+            (HasTold pair.now cmd (progress Z.Zfs self.old) (progress Z.Zfs self.new)) }
     {
         match self.unit.run(cmd) {
             Told::Done => match learn(self.alloc, self.unit, pair, self.known) {
@@ -71,7 +72,7 @@ impl<'a, 'b, Z: Zfs> Replication<'a, 'b, Z> {
         requires may { MayGive pair.now self.old.known.now cmd }
         requires changes { is_change cmd ≡ true }
         ensures stage { Stage pair.now (progress Z.Zfs self.old) (progress Z.Zfs self.new) result }
-        ensures known { OnOk result (self.new.known.now ≡ told_by pair.now cmd (Done reply.Nothing) self.old.known.now) }
+        ensures known { OnOk result (HasDone pair.now cmd self.old.known.now self.new.known.now) }
     {
         self.give(pair, cmd)
     }
@@ -81,7 +82,7 @@ impl<'a, 'b, Z: Zfs> Replication<'a, 'b, Z> {
     fn outcome(&self, _pair: &Pair) -> Outcome
         requires at_work { AtWork _pair.now (progress Z.Zfs self.now) }
         requires finished { IsFinished _pair.now self.now.known.now }
-        ensures { HasEnded (sight Z.Zfs self.now.unit.now) (sight Z.Zfs self.now.unit.now) result }
+        ensures { HasEndedAs (progress Z.Zfs self.now) (progress Z.Zfs self.now) result }
     {
         finished_with(done_transfers(self.unit.transcript()))
     }

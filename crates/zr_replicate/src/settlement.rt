@@ -6,8 +6,8 @@ ghost use Rattle.std.specs.Option.{option_copied};
 ghost use Rattle.zr_names.specs.Marks.{cursor_text, mark_kind};
 ghost use Rattle.zr_names.specs.declared.marks.MarkKind.TheVariants.{Cursor};
 ghost use Rattle.zr_command.specs.Kinds.{is_cursor_of, kind_in};
-ghost use Rattle.zr_known.specs.Known.{is_among, with_last_held, with_step_held};
-ghost use Rattle.zr_replicate.specs.Settlement.{first_other, HasCursor, is_any_cursor, is_bookmark, IsAlone, IsOtherMark, IsOtherName, IsSafe, OnlyMarks, SettlesFrom};
+ghost use Rattle.zr_known.specs.Known.{is_among};
+ghost use Rattle.zr_replicate.specs.Settlement.{first_other, HasCursor, HasNoOtherHold, HasNoOtherMark, is_any_cursor, is_bookmark, is_other_cursor, IsAlone, IsOtherMark, IsOtherName, IsSafe, OnlyItsMarks, OnlyLastHolds, OnlyMarks, OnlyStepHolds, SettlesFrom};
 ghost use Rattle.zr_replicate.specs.Progress.{AtWork, progress, Stage};
 ghost use Rattle.zr_command.specs.Names.{same_text};
 
@@ -46,7 +46,7 @@ impl<'a, 'b, Z: Zfs> Replication<'a, 'b, Z> {
         requires may { SettlesFrom pair.now self.old.known.now newest.now version.now }
         ensures stage { Stage pair.now (progress Z.Zfs self.old) (progress Z.Zfs self.new) result }
         ensures cursor { OnOk result (HasCursor pair.now self.new.known.now newest.now) }
-        ensures only { OnOk result (self.new.known.now ≡ record self.old.known.now { marks = self.new.known.now.marks }) }
+        ensures only { OnOk result (OnlyItsMarks self.old.known.now self.new.known.now) }
     {
         match cursor_of(self.alloc, newest.guid, &pair.job) {
             Ok(name) if self.known.has_mark(&name) => Ok(()),
@@ -61,7 +61,7 @@ impl<'a, 'b, Z: Zfs> Replication<'a, 'b, Z> {
         requires may { HasCursor pair.now self.old.known.now newest.now }
         ensures stage { Stage pair.now (progress Z.Zfs self.old) (progress Z.Zfs self.new) result }
         ensures safe { OnOk result (IsSafe pair.now self.new.known.now newest.now) }
-        ensures only { OnOk result (self.new.known.now ≡ with_last_held self.new.known.now.target.held self.old.known.now) }
+        ensures only { OnOk result (OnlyLastHolds self.old.known.now self.new.known.now) }
     {
         if self.known.is_last_held(&newest.name) {
             Ok(())
@@ -96,8 +96,8 @@ impl<'a, 'b, Z: Zfs> Replication<'a, 'b, Z> {
         requires safe { IsSafe pair.now self.old.known.now newest.now }
         ensures stage { Stage pair.now (progress Z.Zfs self.old) (progress Z.Zfs self.new) result }
         ensures safe { OnOk result (IsSafe pair.now self.new.known.now newest.now) }
-        ensures alone { OnOk result (list_all (λ other. same_text other newest.now.name) self.new.known.now.target.held ≡ true) }
-        ensures only { OnOk result (self.new.known.now ≡ with_last_held self.new.known.now.target.held self.old.known.now) }
+        ensures alone { OnOk result (HasNoOtherHold newest.now self.new.known.now) }
+        ensures only { OnOk result (OnlyLastHolds self.old.known.now self.new.known.now) }
     {
         loop {
             match other_last(self.known, newest) {
@@ -117,8 +117,7 @@ fn is_any_cursor(kind: MarkKind) -> bool
 
 /// A cursor of the job that is not the one of a guid.
 fn other_cursor<'a>(marks: &'a [VersionRow], job: &JobName, guid: Guid) -> Option<&'a VersionRow>
-    ensures { option_copied result ≡
-        find (λ row. is_any_cursor (kind_in job.now row.name) && not (is_cursor_of job.now guid row)) marks.now }
+    ensures { option_copied result ≡ find (is_other_cursor job.now guid) marks.now }
 {
     marks.iter().find(|row| is_any_cursor(kind_in(&row.name, job)) && !is_cursor_of(row, job, guid))
 }
@@ -164,8 +163,8 @@ impl<'a, 'b, Z: Zfs> Replication<'a, 'b, Z> {
         requires safe { IsSafe pair.now self.old.known.now newest.now }
         ensures stage { Stage pair.now (progress Z.Zfs self.old) (progress Z.Zfs self.new) result }
         ensures safe { OnOk result (IsSafe pair.now self.new.known.now newest.now) }
-        ensures alone { OnOk result (list_all (is_cursor_of pair.now.job newest.now.guid) self.new.known.now.marks ≡ true) }
-        ensures only { OnOk result (self.new.known.now ≡ record self.old.known.now { marks = self.new.known.now.marks }) }
+        ensures alone { OnOk result (HasNoOtherMark pair.now newest.now self.new.known.now) }
+        ensures only { OnOk result (OnlyItsMarks self.old.known.now self.new.known.now) }
     {
         loop {
             match other_mark(self.known, pair, newest) {
@@ -202,7 +201,7 @@ impl<'a, 'b, Z: Zfs> Replication<'a, 'b, Z> {
         ensures stage { Stage pair.now (progress Z.Zfs self.old) (progress Z.Zfs self.new) result }
         ensures safe { OnOk result (IsSafe pair.now self.new.known.now newest.now) }
         ensures alone { OnOk result (self.new.known.now.source.held ≡ []) }
-        ensures only { OnOk result (self.new.known.now ≡ with_step_held self.new.known.now.source.held self.old.known.now) }
+        ensures only { OnOk result (OnlyStepHolds self.old.known.now self.new.known.now) }
     {
         loop {
             match held_step(self.known) {

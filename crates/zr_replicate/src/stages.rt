@@ -1,11 +1,11 @@
 //! One command each: what it wants, and what is known after it.
 
-ghost use Rattle.std.specs.Prelude.{◌≡◌, ◌++◌, ◌∷◌, [], OnOk, filter, not, true};
+ghost use Rattle.std.specs.Prelude.{◌≡◌, ◌++◌, ◌∷◌, [], OnOk, false, filter, not, true};
 ghost use Rattle.zr_command.specs.Kinds.{kind_in};
 ghost use Rattle.zr_known.specs.Known.{arrival, is_own_kind, is_row_of, presence_after, set_among, with_last_held, with_step_held, without_name};
 ghost use Rattle.zr_known.specs.Replication.{MayDestroyMark, MayHoldLast, MayHoldStep, MayMark, MayReleaseLast, MayReleaseStep, MayTransfer};
 ghost use Rattle.zr_known.specs.declared.known.Receiving.TheVariants.{Nothing};
-ghost use Rattle.zr_replicate.specs.Progress.{AtWork, HasArrived, IsMarked, progress, Stage};
+ghost use Rattle.zr_replicate.specs.Progress.{AtWork, HasArrived, IsMarked, IsUnmarked, LastHoldIs, progress, Stage, StepHoldIs};
 ghost use Rattle.zr_command.specs.declared.version.VersionName.TheVariants.{Mark};
 
 use crate::commands;
@@ -21,8 +21,7 @@ impl<'a, 'b, Z: Zfs> Replication<'a, 'b, Z> {
         requires at_work { AtWork pair.now (progress Z.Zfs self.old) }
         requires may { MayHoldStep self.old.known.now name.now }
         ensures stage { Stage pair.now (progress Z.Zfs self.old) (progress Z.Zfs self.new) result }
-        ensures known { OnOk result (self.new.known.now ≡
-            with_step_held (set_among true name.now self.old.known.now.source.held) self.old.known.now) }
+        ensures known { OnOk result (StepHoldIs true name.now self.old.known.now self.new.known.now) }
     {
         match commands::step_hold(pair, name) {
             Ok(cmd) => self.change(pair, cmd),
@@ -35,8 +34,7 @@ impl<'a, 'b, Z: Zfs> Replication<'a, 'b, Z> {
         requires at_work { AtWork pair.now (progress Z.Zfs self.old) }
         requires may { MayHoldLast pair.now self.old.known.now name.now }
         ensures stage { Stage pair.now (progress Z.Zfs self.old) (progress Z.Zfs self.new) result }
-        ensures known { OnOk result (self.new.known.now ≡
-            with_last_held (set_among true name.now self.old.known.now.target.held) self.old.known.now) }
+        ensures known { OnOk result (LastHoldIs true name.now self.old.known.now self.new.known.now) }
     {
         match commands::last_hold(pair, name) {
             Ok(cmd) => self.change(pair, cmd),
@@ -49,8 +47,7 @@ impl<'a, 'b, Z: Zfs> Replication<'a, 'b, Z> {
         requires at_work { AtWork pair.now (progress Z.Zfs self.old) }
         requires may { MayReleaseLast self.old.known.now name.now }
         ensures stage { Stage pair.now (progress Z.Zfs self.old) (progress Z.Zfs self.new) result }
-        ensures known { OnOk result (self.new.known.now ≡
-            with_last_held (without_name name.now self.old.known.now.target.held) self.old.known.now) }
+        ensures known { OnOk result (LastHoldIs false name.now self.old.known.now self.new.known.now) }
     {
         match commands::last_release(pair, name) {
             Ok(cmd) => self.change(pair, cmd),
@@ -63,8 +60,7 @@ impl<'a, 'b, Z: Zfs> Replication<'a, 'b, Z> {
         requires at_work { AtWork pair.now (progress Z.Zfs self.old) }
         requires may { MayReleaseStep pair.now self.old.known.now name.now }
         ensures stage { Stage pair.now (progress Z.Zfs self.old) (progress Z.Zfs self.new) result }
-        ensures known { OnOk result (self.new.known.now ≡
-            with_step_held (without_name name.now self.old.known.now.source.held) self.old.known.now) }
+        ensures known { OnOk result (StepHoldIs false name.now self.old.known.now self.new.known.now) }
     {
         match commands::step_release(pair, name) {
             Ok(cmd) => self.change(pair, cmd),
@@ -77,8 +73,7 @@ impl<'a, 'b, Z: Zfs> Replication<'a, 'b, Z> {
         requires at_work { AtWork pair.now (progress Z.Zfs self.old) }
         requires may { MayDestroyMark pair.now self.old.known.now name.now }
         ensures stage { Stage pair.now (progress Z.Zfs self.old) (progress Z.Zfs self.new) result }
-        ensures known { OnOk result (self.new.known.now ≡
-            record self.old.known.now { marks = filter (λ row. not (is_row_of (Mark name.now) row)) self.old.known.now.marks }) }
+        ensures known { OnOk result (IsUnmarked name.now self.old.known.now self.new.known.now) }
     {
         match commands::destroy_mark(pair, name) {
             Ok(cmd) => self.change(pair, cmd),
@@ -97,7 +92,8 @@ impl<'a, 'b, Z: Zfs> Replication<'a, 'b, Z> {
         requires own { is_own_kind (kind_in pair.now.job (Mark name.now)) ≡ true }
         requires may { MayMark pair.now self.old.known.now version.now name.now }
         ensures stage { Stage pair.now (progress Z.Zfs self.old) (progress Z.Zfs self.new) result }
-        ensures known { OnOk result (IsMarked version.now name.now self.old.known.now self.new.known.now) }
+        ensures known { OnOk result
+            (IsMarked version.now name.now self.old.known.now self.new.known.now) }
     {
         match commands::bookmark(pair, version, name) {
             Ok(cmd) => self.change(pair, cmd),

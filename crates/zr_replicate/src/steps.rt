@@ -1,10 +1,10 @@
 //! The steps of a plan, one after another.
 
-ghost use Rattle.std.specs.Prelude.{◌≡◌, ◌<◌, IfOk, MatchOption, OnOk, Some};
+ghost use Rattle.std.specs.Prelude.{◌≡◌, IfOk, MatchOption, OnOk, Some};
 ghost use Rattle.zr_known.specs.Deciding.{cursor_source, MakesCursor};
 ghost use Rattle.zr_known.specs.Replication.{next_transfer, plan_known};
 ghost use Rattle.zr_plan.specs.declared.target.Planned.TheVariants.{UpToDate};
-ghost use Rattle.zr_replicate.specs.Steps.{IsAtRest, IsReady, IsUntouched, newest_by, SameListings, step_count};
+ghost use Rattle.zr_replicate.specs.Steps.{AreFewerSteps, IsAtRest, IsReady, IsUntouched, newest_by, SameListings};
 ghost use Rattle.zr_replicate.specs.Settlement.{IsAlone, IsSafe, MaySettle, OnlyMarks};
 ghost use Rattle.zr_replicate.specs.Progress.{AtWork, progress, Stage};
 ghost use Rattle.zr_command.specs.declared.version.VersionName.{VersionName};
@@ -34,7 +34,7 @@ fn cursor_maker(
     pair: &Pair,
     newest: &Newest,
 ) -> Result<Option<VersionName>, AllocError>
-    ensures first { IfOk result (λ maker. maker ≡ cursor_source pair.now known.now newest.now.guid) }
+    ensures first { IfOk result (λ from. from ≡ cursor_source pair.now known.now newest.now.guid) }
     ensures makes { IfOk result (λ maker. MatchOption maker
         ((version : VersionName) → MakesCursor pair.now known.now newest.now.guid version → ⊥)
         (λ version. MakesCursor pair.now known.now newest.now.guid version)) }
@@ -71,7 +71,7 @@ impl<'a, 'b, Z: Zfs> Replication<'a, 'b, Z> {
         ensures stage { Stage pair.now (progress Z.Zfs self.old) (progress Z.Zfs self.new) result }
         ensures rests { OnOk result (IsAtRest pair.now self.new.known.now) }
         ensures same { OnOk result (SameListings self.old.known.now self.new.known.now) }
-        ensures fewer { OnOk result (IsAtRest pair.now self.old.known.now → step_count (plan_known pair.now self.new.known.now) < step_count (plan_known pair.now self.old.known.now)) }
+        ensures fewer { OnOk result (AreFewerSteps pair.now self.old.known.now self.new.known.now) }
     {
         let Ok(newest) = arriving(&transfer) else {
             return Err(self.unit.out_of_memory());

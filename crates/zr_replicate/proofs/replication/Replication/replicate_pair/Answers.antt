@@ -22,6 +22,5 @@ returns-in_err-bring_up_to_date-clause-ended g c =
 pub returns-clause-ended : goal.returns-clause-ended
 returns-clause-ended g c =
     let both = goes-on-with _ _ _ _ c.in_ok-list_everything.ensures.stage c.in_ok-bring_up_to_date.ensures.stage in
-    let now = progress g.Z.Zfs c.bring_up_to_date.new.self in
-    let ended = ends-with _ _ now now c.outcome.result both (record { ended = c.outcome.ensures; same_lent = refl }) in
+    let ended = ends-with _ _ _ _ _ both c.outcome.ensures in
     search rules
