@@ -15,7 +15,7 @@ use Rattle.zr_plan.specs.declared.target.Conflict.TheVariants.{NoSenderSnapshots
 use Rattle.zr_plan.specs.declared.target.Planned.{Planned}
 use Rattle.zr_plan.specs.declared.target.Planned.TheVariants.{Steps, Conflict}
 use Rattle.zr_plan.specs.declared.target.Step.{Step}
-use Rattle.zr_plan.specs.declared.target.Target.{Target}
+use Rattle.zr_plan.specs.Sides.{Onto, rows_of_source}
 use Rattle.zr_known.specs.declared.known.Known.{Known}
 use Rattle.zr_jobs.specs.declared.pair.Pair.{Pair}
 use Rattle.zr_known.specs.declared.known.Presence.{Presence}
@@ -23,7 +23,7 @@ use Rattle.zr_known.specs.declared.known.Presence.TheVariants.{Unlisted, Absent,
 use Rattle.zr_known.specs.declared.known.Receiving.{Receiving}
 use Rattle.zr_known.specs.declared.known.Receiving.TheVariants.{Unknown, Nothing}
 use Rattle.zr_known.specs.Known.{target_rows}
-use Rattle.zr_known.specs.Replication.{is_there, newest_known, plan_between, plan_known, planned_onto, rows_of_source}
+use Rattle.zr_known.specs.Replication.{is_there, newest_known, plan_between, plan_known, planned_onto}
 use Rattle.zr_known.specs.Straight.{has_snapshot, is_absent, is_at_rest, is_none_receiving, is_straight, is_untouched, IsForward, rests_on}
 
 module _ {X : Type 0} (p : X → Bool) where
@@ -80,7 +80,7 @@ forward-if true nothing first plan is one other = absurd (true≢false is)
 forward-if false true first plan is one other = one refl
 forward-if false false first plan is one other = other refl
 
-abbrev absent-target : Target
+abbrev absent-target : Onto
 absent-target = record { there = false; placeholder = false; rows = []; partial = None }
 
 -- onto a target that is not there
@@ -150,7 +150,7 @@ between-absent pair known (Some source) target rows Unknown some none absent = a
 between-absent pair known (Some source) Unlisted rows Nothing some none absent = absurd (true≢false (sym absent))
 between-absent pair known (Some source) (There flag) rows Nothing some none absent = absurd (true≢false (sym absent))
 between-absent pair known (Some source) Absent rows Nothing some none absent =
-    forward-absent pair.job (rows_of_source known source) (newest-planned source known.marks some)
+    forward-absent pair.job (rows_of_source source known.marks) (newest-planned source known.marks some)
 
 between-there : (pair : Pair) (known : Known) (source : Option (List VersionRow)) (target : Presence) (rows : Option (List VersionRow)) (receiving : Receiving) (last : VersionRow) → has_snapshot source ≡ true → is_none_receiving receiving ≡ true → is_there target ≡ true → newest (option_map_or (λ rows. rows) rows []) ≡ Some last → list_any (is_cursor_of pair.job last.guid) known.marks ≡ true → Plans pair known source target rows receiving
 between-there pair known None target rows receiving last some none there is marked = absurd (true≢false (sym some))
@@ -159,7 +159,7 @@ between-there pair known (Some source) Unlisted rows Nothing last some none ther
 between-there pair known (Some source) Absent rows Nothing last some none there is marked = absurd (true≢false (sym there))
 between-there pair known (Some source) (There flag) None Nothing last some none there is marked = absurd (let wrong : None ≡ Some last = is in cc)
 between-there pair known (Some source) (There flag) (Some rows) Nothing last some none there is marked =
-    forward-there pair.job (rows_of_source known source) rows flag last (newest-planned source known.marks some) is (planned-marked pair.job last.guid source known.marks marked)
+    forward-there pair.job (rows_of_source source known.marks) rows flag last (newest-planned source known.marks some) is (planned-marked pair.job last.guid source known.marks marked)
 
 -- a pair at rest whose target is there has a plan that is done by transfers alone
 pub rest-forward : (pair : Pair) (known : Known) → has_snapshot known.source.listing ≡ true → is_none_receiving known.receiving ≡ true → is_there known.presence ≡ true → is_at_rest pair known ≡ true → IsForward (plan_known pair known)

@@ -14,10 +14,10 @@ use Rattle.zr_command.specs.declared.version.VersionRow.{VersionRow}
 use Rattle.zr_command.specs.Names.{same_text}
 use Rattle.zr_command.specs.Kinds.{is_cursor_of, is_snap, is_snap_of, is_tentative_of, newest}
 use Rattle.zr_plan.specs.Plan.{plan_of}
+use Rattle.zr_plan.specs.Sides.{Onto, rows_of_source}
 use Rattle.zr_plan.specs.declared.target.Planned.{Planned}
 use Rattle.zr_plan.specs.declared.target.Planned.TheVariants.{Steps}
 use Rattle.zr_plan.specs.declared.target.Step.{Step as OneStep}
-use Rattle.zr_plan.specs.declared.target.Target.{Target}
 use Rattle.zr_known.specs.declared.known.Known.{Known}
 use Rattle.zr_jobs.specs.declared.pair.Pair.{Pair}
 use Rattle.zr_known.specs.declared.known.Presence.{Presence}
@@ -43,21 +43,17 @@ pub record IsSettled (pair : Pair) (known : Known) (last : VersionRow) (name : L
   pub cursor : list_any (is_cursor_of pair.job last.guid) known.marks ≡ true
   pub held : is_among known.target.held name ≡ true
 
--- the source's rows for a plan: the listed snapshots, and the job's marks as they are now
-abbrev pub rows_of_source : Known → List VersionRow → List VersionRow
-rows_of_source known rows = filter is_snap rows ++ known.marks
-
 -- what a plan knows of the target, where it is known to be absent, or to be there with its versions
-abbrev pub planned_onto : Presence → Option (List VersionRow) → Option Target
+abbrev pub planned_onto : Presence → Option (List VersionRow) → Option Onto
 planned_onto Unlisted rows = None
 planned_onto Absent rows = Some (record { there = false; placeholder = false; rows = []; partial = None })
 planned_onto (There flag) None = None
 planned_onto (There flag) (Some rows) =
     Some (record { there = true; placeholder = flag; rows = rows; partial = None })
 
-abbrev pub plan_between : Pair → Known → Option (List VersionRow) → Option Target → Receiving → Option Planned
+abbrev pub plan_between : Pair → Known → Option (List VersionRow) → Option Onto → Receiving → Option Planned
 plan_between pair known (Some rows) (Some target) Nothing =
-    Some (plan_of pair.job (rows_of_source known rows) target MostRecent)
+    Some (plan_of pair.job (rows_of_source rows known.marks) target MostRecent)
 plan_between pair known rows target receiving = None
 
 -- the plan over what is known: it stands where the source was listed, the target is known to be absent or is there with

@@ -1,13 +1,12 @@
-ghost use Rattle.std.specs.Prelude.{◌≡◌, ◌++◌, OnOk, filter};
-ghost use Rattle.zr_command.specs.Kinds.{is_snap};
+ghost use Rattle.std.specs.Prelude.{◌≡◌};
 ghost use Rattle.zr_known.specs.Replication.{is_there};
 
 use crate::known::{Known, Presence, Receiving};
 use std::alloc::Global;
-use zr_command::{Base, Transfer, VersionRow, is_snap};
+use zr_command::{Base, Transfer};
 use zr_jobs::Pair;
-use zr_names::{Guid, Initial, NoMemory, Rows, Same, cursor_name, same_items};
-use zr_plan::{Planned, Step, Target, plan};
+use zr_names::{Guid, Initial, NoMemory, Same, cursor_name};
+use zr_plan::{Planned, Source, Step, Target, plan};
 
 pub(crate) fn is_there(presence: Presence) -> bool
     ensures { result ≡ is_there presence }
@@ -15,67 +14,32 @@ pub(crate) fn is_there(presence: Presence) -> bool
     matches!(presence, Presence::There(_))
 }
 
-fn push_snaps(snaps: &mut Rows<VersionRow>, rows: &[VersionRow]) -> Result<(), NoMemory>
-    ensures { OnOk result (snaps.new ≡ snaps.old ++ filter is_snap rows.now) }
-{
-    for row in rows {
-        if is_snap(row) {
-            snaps.push(row.same()?)?;
-        }
-    }
-    Ok(())
-}
-
-fn push_all(copies: &mut Rows<VersionRow>, rows: &[VersionRow]) -> Result<(), NoMemory>
-    ensures { OnOk result (copies.new ≡ copies.old ++ rows.now) }
-{
-    for row in rows {
-        copies.push(row.same()?)?;
-    }
-    Ok(())
-}
-
 impl Known {
-    ghost use Rattle.std.specs.Prelude.{◌≡◌, IfOk};
+    ghost use Rattle.std.specs.Prelude.{◌≡◌, IfOk, option_map};
     ghost use Rattle.zr_known.specs.Known.{target_rows};
-    ghost use Rattle.zr_known.specs.Replication.{next_transfer, plan_known, planned_onto, rows_of_source, transfer_of_step};
-
-    /// The source's rows for a plan.
-    fn rows_of_source(
-        &self,
-        alloc: Global,
-        rows: &[VersionRow],
-    ) -> Result<Rows<VersionRow>, NoMemory>
-        ensures { IfOk result (λ all. all ≡ rows_of_source self.now rows.now) }
-    {
-        let mut all = Rows::new(alloc);
-        push_snaps(&mut all, rows)?;
-        push_all(&mut all, self.marks.as_slice())?;
-        Ok(all)
-    }
+    ghost use Rattle.zr_known.specs.Replication.{next_transfer, plan_known, planned_onto, transfer_of_step};
+    ghost use Rattle.zr_plan.specs.Sides.{onto};
 
     /// What a plan knows of the target.
-    fn planned_onto(&self, alloc: Global) -> Result<Option<Target>, NoMemory>
-        ensures { IfOk result (λ target. target ≡ planned_onto self.now.presence (target_rows self.now)) }
+    fn planned_onto(&self) -> Option<Target<'_>>
+        ensures { option_map onto result ≡ planned_onto self.now.presence (target_rows self.now) }
     {
         match (self.presence, &self.arrived) {
-            (Presence::Absent, _) => Ok(Some(Target {
+            (Presence::Absent, _) => Some(Target {
                 there: false,
                 placeholder: false,
-                rows: Rows::new(alloc),
+                listing: &[],
+                arrived: &[],
                 partial: None,
-            })),
-            (Presence::There(flag), Some(arrived)) => {
-                let mut rows = same_items(alloc, self.target.rows())?;
-                push_all(&mut rows, arrived.as_slice())?;
-                Ok(Some(Target {
-                    there: true,
-                    placeholder: flag,
-                    rows,
-                    partial: None,
-                }))
-            }
-            (Presence::Unlisted, _) | (Presence::There(_), None) => Ok(None),
+            }),
+            (Presence::There(flag), Some(arrived)) => Some(Target {
+                there: true,
+                placeholder: flag,
+                listing: self.target.rows(),
+                arrived: arrived.as_slice(),
+                partial: None,
+            }),
+            (Presence::Unlisted, _) | (Presence::There(_), None) => None,
         }
     }
 
@@ -83,23 +47,17 @@ impl Known {
     pub fn plan_known(&self, alloc: Global, pair: &Pair) -> Result<Option<Planned>, NoMemory>
         ensures { IfOk result (λ planned. planned ≡ plan_known pair.now self.now) }
     {
-        let Some(rows) = &self.source.listing else {
-            return Ok(None);
-        };
-        let Some(target) = self.planned_onto(alloc)? else {
+        let (Some(rows), Some(target)) = (&self.source.listing, self.planned_onto()) else {
             return Ok(None);
         };
         match self.receiving {
             Receiving::Unknown => Ok(None),
             Receiving::Nothing => {
-                let source = self.rows_of_source(alloc, rows.as_slice())?;
-                let planned = plan(
-                    alloc,
-                    &pair.job,
-                    source.as_slice(),
-                    &target,
-                    Initial::MostRecent,
-                )?;
+                let source = Source {
+                    listing: rows.as_slice(),
+                    marks: self.marks.as_slice(),
+                };
+                let planned = plan(alloc, &pair.job, &source, &target, Initial::MostRecent)?;
                 Ok(Some(planned))
             }
         }

@@ -10,8 +10,8 @@ use Rattle.zr_plan.specs.declared.target.Conflict.TheVariants.{NoSenderSnapshots
 use Rattle.zr_plan.specs.declared.target.Planned.{Planned}
 use Rattle.zr_plan.specs.declared.target.Planned.TheVariants.{UpToDate, Conflict}
 use Rattle.zr_plan.specs.declared.target.Step.{Step}
-use Rattle.zr_plan.specs.declared.target.Target.{Target}
 use Rattle.zr_plan.specs.declared.target.TokenInfo.{TokenInfo}
+use Rattle.zr_plan.specs.Sides.{Onto}
 use Rattle.zr_command.specs.declared.version.VersionName.{VersionName}
 use Rattle.zr_command.specs.declared.version.VersionName.TheVariants.{Snap, Mark}
 use Rattle.zr_command.specs.declared.version.VersionRow.{VersionRow}
@@ -74,7 +74,7 @@ if_caught_up X false true first plan isnt next is = absurd (isnt is)
 if_caught_up X false false first plan isnt next is = next is
 
 -- an up-to-date plan by its cases
-pub with_caught_up : (job : List ℕ) (source : List VersionRow) (target : Target) (initial : Initial) (partial : Option TokenInfo) → plan_with job source target initial partial ≡ UpToDate → IsCaughtUp job source target.rows
+pub with_caught_up : (job : List ℕ) (source : List VersionRow) (target : Onto) (initial : Initial) (partial : Option TokenInfo) → plan_with job source target initial partial ≡ UpToDate → IsCaughtUp job source target.rows
 with_caught_up job source target initial (Some partial) is = absurd (partial_isnt _ _ is)
 with_caught_up job source target initial None is =
     if_caught_up (IsCaughtUp job source target.rows) (is_none (newest source)) (has_nothing target) (initial_plan source initial)

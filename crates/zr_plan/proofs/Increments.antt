@@ -8,8 +8,8 @@ use Rattle.zr_plan.specs.declared.target.Conflict.TheVariants.{NoSenderSnapshots
 use Rattle.zr_plan.specs.declared.target.Planned.{Planned}
 use Rattle.zr_plan.specs.declared.target.Planned.TheVariants.{Steps, Conflict}
 use Rattle.zr_plan.specs.declared.target.Step.{Step}
-use Rattle.zr_plan.specs.declared.target.Target.{Target}
 use Rattle.zr_plan.specs.declared.target.TokenInfo.{TokenInfo}
+use Rattle.zr_plan.specs.Sides.{Onto}
 use Rattle.zr_command.specs.declared.version.VersionName.{VersionName}
 use Rattle.zr_command.specs.declared.version.VersionName.TheVariants.{Snap, Mark}
 use Rattle.zr_command.specs.declared.version.VersionRow.{VersionRow}
@@ -60,7 +60,7 @@ if_increments false true first plan steps isnt next is = search rules
 if_increments false false first plan steps isnt next is = next is
 
 -- a plan onto a target that has something, by its cases
-pub with_increments : (job : List ℕ) (source : List VersionRow) (target : Target) (initial : Initial) (steps : List Step) (partial : Option TokenInfo) → has_nothing target ≡ false → plan_with job source target initial partial ≡ Steps steps → list_any (λ step. step.full) steps ≡ false
+pub with_increments : (job : List ℕ) (source : List VersionRow) (target : Onto) (initial : Initial) (steps : List Step) (partial : Option TokenInfo) → has_nothing target ≡ false → plan_with job source target initial partial ≡ Steps steps → list_any (λ step. step.full) steps ≡ false
 with_increments job source target initial steps (Some partial) isnt is = absurd (partial_isnt _ _ steps is)
 with_increments job source target initial steps None isnt is =
     if_increments (is_none (newest source)) (has_nothing target) (initial_plan source initial)

@@ -1,3 +1,4 @@
 pub mod CaughtUp
 pub mod Increments
 pub mod Plans
+pub mod Sides

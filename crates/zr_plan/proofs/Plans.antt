@@ -10,8 +10,8 @@ use Rattle.zr_plan.specs.declared.target.Conflict.TheVariants.{NoSenderSnapshots
 use Rattle.zr_plan.specs.declared.target.Planned.{Planned}
 use Rattle.zr_plan.specs.declared.target.Planned.TheVariants.{Conflict}
 use Rattle.zr_plan.specs.declared.target.Step.{Step}
-use Rattle.zr_plan.specs.declared.target.Target.{Target}
 use Rattle.zr_plan.specs.declared.target.TokenInfo.{TokenInfo}
+use Rattle.zr_plan.specs.Sides.{Onto}
 use Rattle.zr_command.specs.declared.version.VersionName.{VersionName}
 use Rattle.zr_command.specs.declared.version.VersionName.TheVariants.{Snap, Mark}
 use Rattle.zr_command.specs.declared.version.VersionRow.{VersionRow}
@@ -27,7 +27,7 @@ from_goes_on job source rows last None some = search rules
 from_goes_on job source rows last (Some own) some = steps_go_on _
 
 -- a target that is there with a last snapshot has something
-pub has_something : (target : Target) (last : VersionRow) → target.there ≡ true → newest target.rows ≡ Some last → has_nothing target ≡ false
+pub has_something : (target : Onto) (last : VersionRow) → target.there ≡ true → newest target.rows ≡ Some last → has_nothing target ≡ false
 has_something target last there is = search rules
 
 -- a plan by what it tests first
@@ -38,7 +38,7 @@ if_goes_on : (test other : Bool) (first plan : Planned) → other ≡ false → 
 if_goes_on true other first plan is goes = search rules
 if_goes_on false other first plan is goes = rw is goes
 
-pub with_goes_on : (job : List ℕ) (source : List VersionRow) (target : Target) (initial : Initial) (last : VersionRow) → target.there ≡ true → newest target.rows ≡ Some last → is_some (own_version job source last.guid) ≡ true → GoesOn (plan_with job source target initial None)
+pub with_goes_on : (job : List ℕ) (source : List VersionRow) (target : Onto) (initial : Initial) (last : VersionRow) → target.there ≡ true → newest target.rows ≡ Some last → is_some (own_version job source last.guid) ≡ true → GoesOn (plan_with job source target initial None)
 with_goes_on job source target initial last there is some =
     if_goes_on (is_none (newest source)) (has_nothing target) (initial_plan source initial) (plan_after job source target.rows (newest target.rows))
     (has_something target last there is) (after_goes_on job source target.rows (newest target.rows) last is some)

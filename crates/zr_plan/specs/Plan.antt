@@ -13,8 +13,8 @@ use Rattle.zr_plan.specs.declared.target.Conflict.TheVariants.{NoSenderSnapshots
 use Rattle.zr_plan.specs.declared.target.Planned.{Planned}
 use Rattle.zr_plan.specs.declared.target.Planned.TheVariants.{UpToDate, Steps, Resume, Abandon, Conflict}
 use Rattle.zr_plan.specs.declared.target.Step.{Step}
-use Rattle.zr_plan.specs.declared.target.Target.{Target}
 use Rattle.zr_plan.specs.declared.target.TokenInfo.{TokenInfo}
+use Rattle.zr_plan.specs.Sides.{Onto}
 
 -- the number of a conflict
 abbrev pub conflict_number : TheConflict → ℕ
@@ -109,11 +109,11 @@ plan_after job source rows (Some last) =
     plan_from job source rows last (own_version job source last.guid)
 
 -- a target that is not there, or is a placeholder without snapshots, has nothing
-abbrev pub has_nothing : Target → Bool
+abbrev pub has_nothing : Onto → Bool
 has_nothing target = not target.there || (target.placeholder && is_none (newest target.rows))
 
 -- the plan onto a target with this partial receive, or none
-abbrev pub plan_with : List ℕ → List VersionRow → Target → Initial → Option TokenInfo → Planned
+abbrev pub plan_with : List ℕ → List VersionRow → Onto → Initial → Option TokenInfo → Planned
 plan_with job source target initial (Some partial) =
     partial_plan job source (newest target.rows) partial
 plan_with job source target initial None =
@@ -122,5 +122,5 @@ plan_with job source target initial None =
     else plan_after job source target.rows (newest target.rows))
 
 -- what a replication does next, by a job's rows of the source and what is known of the target
-unfoldable pub plan_of : List ℕ → List VersionRow → Target → Initial → Planned
+unfoldable pub plan_of : List ℕ → List VersionRow → Onto → Initial → Planned
 plan_of job source target initial = plan_with job source target initial target.partial

@@ -2,8 +2,10 @@
 #![tactic(auto)]
 
 pub use planning::plan;
+pub use source::Source;
 pub use target::{Conflict, Planned, Step, Target, TokenInfo};
 
 pub mod laws;
 pub mod planning;
+pub mod source;
 pub mod target;

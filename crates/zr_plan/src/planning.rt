@@ -1,9 +1,11 @@
-ghost use Rattle.std.specs.Prelude.{◌≡◌, ◌++◌, IfOk, OnOk, filter, find, is_some, nat_lt, option_to_list, option_map};
+ghost use Rattle.std.specs.Prelude.{◌≡◌, ◌++◌, ◌&&◌, IfOk, OnOk, filter, find, is_some, nat_lt, option_to_list, option_map};
 ghost use Rattle.std.specs.Option.{option_copied};
 ghost use Rattle.zr_command.specs.declared.version.VersionRow.{VersionRow};
-ghost use Rattle.zr_plan.specs.Plan.{can_go_on, conflict_plan, has_nothing, in_full, initial_plan, is_common, is_later, newest_common, own_version, partial_plan, plan_after, plan_from, plan_of, step_to, steps_of, steps_plan};
+ghost use Rattle.zr_plan.specs.Plan.{can_go_on, conflict_plan, has_nothing, in_full, initial_plan, is_after_snaps, is_common, is_later, newest_common, own_version, partial_plan, plan_after, plan_from, plan_of, step_to, steps_of, steps_plan};
+ghost use Rattle.zr_plan.specs.Sides.{onto, rows_of};
 ghost use Rattle.zr_command.specs.Kinds.{is_cursor_of, is_snap, is_snap_of, is_tentative_of, newest};
 
+use crate::source::Source;
 use crate::target::{Conflict, Planned, Step, Target, TokenInfo};
 use std::alloc::Global;
 use zr_command::{
@@ -11,64 +13,123 @@ use zr_command::{
 };
 use zr_names::{Guid, Initial, JobName, NoMemory, Rows, Same};
 
-fn cursor_of<'a>(job: &JobName, source: &'a [VersionRow], guid: Guid) -> Option<&'a VersionRow>
-    ensures { option_copied result ≡ find (is_cursor_of job.now guid) source.now }
+fn cursor_of<'a>(job: &JobName, marks: &'a [VersionRow], guid: Guid) -> Option<&'a VersionRow>
+    ensures { option_copied result ≡ find (is_cursor_of job.now guid) marks.now }
 {
-    source.iter().find(|row| is_cursor_of(row, job, guid))
+    marks.iter().find(|row| is_cursor_of(row, job, guid))
 }
 
-fn snap_of<'a>(source: &'a [VersionRow], guid: Guid) -> Option<&'a VersionRow>
-    ensures { option_copied result ≡ find (is_snap_of guid) source.now }
+fn first_snap<'a>(rows: &'a [VersionRow], guid: Guid) -> Option<&'a VersionRow>
+    ensures { option_copied result ≡ find (is_snap_of guid) rows.now }
 {
-    source.iter().find(|row| is_snap_of(row, guid))
+    rows.iter().find(|row| is_snap_of(row, guid))
 }
 
-fn tentative_of<'a>(job: &JobName, source: &'a [VersionRow], guid: Guid) -> Option<&'a VersionRow>
-    ensures { option_copied result ≡ find (is_tentative_of job.now guid) source.now }
+#[tactic(auto, using(crate::proofs::Sides::snap_found))]
+fn snap_of<'a>(source: &Source<'a>, guid: Guid) -> Option<&'a VersionRow>
+    ensures { option_copied result ≡ find (is_snap_of guid) (rows_of source.now) }
 {
-    source.iter().find(|row| is_tentative_of(row, job, guid))
+    if let Some(row) = first_snap(source.listing, guid) {
+        Some(row)
+    } else {
+        first_snap(source.marks, guid)
+    }
 }
 
-/// What the source still has of the snapshot of a guid.
-fn own_version<'a>(job: &JobName, source: &'a [VersionRow], guid: Guid) -> Option<&'a VersionRow>
-    ensures { option_copied result ≡ own_version job.now source.now guid }
+fn tentative_of<'a>(job: &JobName, marks: &'a [VersionRow], guid: Guid) -> Option<&'a VersionRow>
+    ensures { option_copied result ≡ find (is_tentative_of job.now guid) marks.now }
 {
-    if let Some(cursor) = cursor_of(job, source, guid) {
+    marks.iter().find(|row| is_tentative_of(row, job, guid))
+}
+
+/// What the source still has of the snapshot of a guid. No snapshot is a cursor, so a cursor is looked for among the marks
+/// alone.
+#[tactic(auto, using(crate::proofs::Sides::cursor_found, crate::proofs::Sides::tentative_found))]
+fn own_version<'a>(job: &JobName, source: &Source<'a>, guid: Guid) -> Option<&'a VersionRow>
+    ensures { option_copied result ≡ own_version job.now (rows_of source.now) guid }
+{
+    if let Some(cursor) = cursor_of(job, source.marks, guid) {
         Some(cursor)
     } else if let Some(snap) = snap_of(source, guid) {
         Some(snap)
     } else {
-        tentative_of(job, source, guid)
+        tentative_of(job, source.marks, guid)
     }
 }
 
-fn is_common(job: &JobName, source: &[VersionRow], row: &VersionRow) -> bool
-    ensures { result ≡ is_common job.now source.now row.now }
+#[tactic(auto, using(crate::proofs::Sides::newest_found))]
+fn newest_of<'a>(source: &Source<'a>) -> Option<&'a VersionRow>
+    ensures { option_copied result ≡ newest (rows_of source.now) }
+{
+    if let Some(row) = newest(source.marks) {
+        Some(row)
+    } else {
+        newest(source.listing)
+    }
+}
+
+#[tactic(auto, using(crate::proofs::Sides::newest_arrived))]
+fn newest_onto<'a>(target: &Target<'a>) -> Option<&'a VersionRow>
+    ensures { option_copied result ≡ newest (onto target.now).rows }
+{
+    if let Some(row) = newest(target.arrived) {
+        Some(row)
+    } else {
+        newest(target.listing)
+    }
+}
+
+fn is_common(job: &JobName, source: &Source<'_>, row: &VersionRow) -> bool
+    ensures { result ≡ is_common job.now (rows_of source.now) row.now }
 {
     is_snap(row) && own_version(job, source, row.guid).is_some()
 }
 
-fn newest_common<'a>(
+fn last_common<'a>(
     job: &JobName,
-    source: &[VersionRow],
+    source: &Source<'_>,
     rows: &'a [VersionRow],
 ) -> Option<&'a VersionRow>
-    ensures { option_copied result ≡ newest_common job.now source.now rows.now }
+    ensures { option_copied result ≡ newest_common job.now (rows_of source.now) rows.now }
 {
     rows.iter().rev().find(|row| is_common(job, source, row))
 }
 
-/// The greatest transaction group of a version of a guid and of the snapshots with this guid.
-fn latest_txg(source: &[VersionRow], guid: Guid, own: &VersionRow) -> u64
-    ensures { (row : VersionRow) → nat_lt result row.txg ≡ is_later source.now guid own.now row }
+#[tactic(auto, using(crate::proofs::Sides::common_arrived))]
+fn newest_common<'a>(
+    job: &JobName,
+    source: &Source<'_>,
+    target: &Target<'a>,
+) -> Option<&'a VersionRow>
+    ensures { option_copied result ≡ newest_common job.now (rows_of source.now) (onto target.now).rows }
 {
-    let mut latest = own.txg;
-    for row in source {
+    if let Some(row) = last_common(job, source, target.arrived) {
+        Some(row)
+    } else {
+        last_common(job, source, target.listing)
+    }
+}
+
+/// The greatest of a transaction group and those of the snapshots with a guid.
+fn latest_among(rows: &[VersionRow], guid: Guid, txg: u64) -> u64
+    ensures { (row : VersionRow) → nat_lt result row.txg ≡ (nat_lt txg row.txg && is_after_snaps rows.now guid row) }
+{
+    let mut latest = txg;
+    for row in rows {
         if is_snap_of(row, guid) {
             latest = latest.max(row.txg);
         }
     }
     latest
+}
+
+/// The greatest transaction group of a version of a guid and of the snapshots with this guid.
+#[tactic(auto, using(crate::proofs::Sides::is_later_both))]
+fn latest_txg(source: &Source<'_>, guid: Guid, own: &VersionRow) -> u64
+    ensures { (row : VersionRow) → nat_lt result row.txg ≡ is_later (rows_of source.now) guid own.now row }
+{
+    let listed = latest_among(source.listing, guid, own.txg);
+    latest_among(source.marks, guid, listed)
 }
 
 /// Adds the increment to a row, if it is a snapshot.
@@ -85,40 +146,59 @@ fn push_step(steps: &mut Rows<Step>, row: &VersionRow) -> Result<(), NoMemory>
     Ok(())
 }
 
-fn steps_of(alloc: Global, rows: &[VersionRow]) -> Result<Rows<Step>, NoMemory>
-    ensures { IfOk result (λ steps. steps ≡ steps_of rows.now) }
+/// Adds the increments to the snapshots among the rows.
+fn push_steps(steps: &mut Rows<Step>, rows: &[VersionRow]) -> Result<(), NoMemory>
+    ensures { OnOk result (steps.new ≡ steps.old ++ steps_of rows.now) }
+{
+    for row in rows {
+        push_step(steps, row)?;
+    }
+    Ok(())
+}
+
+#[tactic(auto, using(crate::proofs::Sides::steps_both))]
+fn steps_of(alloc: Global, source: &Source<'_>) -> Result<Rows<Step>, NoMemory>
+    ensures { IfOk result (λ steps. steps ≡ steps_of (rows_of source.now)) }
 {
     let mut steps = Rows::new(alloc);
-    for row in rows {
-        push_step(&mut steps, row)?;
-    }
+    push_steps(&mut steps, source.listing)?;
+    push_steps(&mut steps, source.marks)?;
     Ok(steps)
+}
+
+/// Adds the increments to the snapshots that come after a transaction group.
+fn push_later(steps: &mut Rows<Step>, rows: &[VersionRow], latest: u64) -> Result<(), NoMemory>
+    ensures { OnOk result (steps.new ≡ steps.old ++ steps_of (filter (λ row. nat_lt latest row.txg) rows.now)) }
+{
+    for row in rows {
+        if latest < row.txg {
+            push_step(steps, row)?;
+        }
+    }
+    Ok(())
 }
 
 /// The increments to the snapshots that are later than the own version of a guid.
 fn later_steps(
     alloc: Global,
-    source: &[VersionRow],
+    source: &Source<'_>,
     guid: Guid,
     own: &VersionRow,
 ) -> Result<Rows<Step>, NoMemory>
-    ensures { IfOk result (λ steps. steps ≡ steps_of (filter (is_later source.now guid own.now) source.now)) }
+    ensures { IfOk result (λ steps. steps ≡ steps_of (filter (is_later (rows_of source.now) guid own.now) (rows_of source.now))) }
 {
     let latest = latest_txg(source, guid, own);
     let mut steps = Rows::new(alloc);
-    for row in source {
-        if latest < row.txg {
-            push_step(&mut steps, row)?;
-        }
-    }
+    push_later(&mut steps, source.listing, latest)?;
+    push_later(&mut steps, source.marks, latest)?;
     Ok(steps)
 }
 
-fn newest_step(alloc: Global, source: &[VersionRow]) -> Result<Rows<Step>, NoMemory>
-    ensures { IfOk result (λ steps. steps ≡ steps_of (option_to_list (newest source.now))) }
+fn newest_step(alloc: Global, source: &Source<'_>) -> Result<Rows<Step>, NoMemory>
+    ensures { IfOk result (λ steps. steps ≡ steps_of (option_to_list (newest (rows_of source.now)))) }
 {
     let mut steps = Rows::new(alloc);
-    if let Some(row) = newest(source) {
+    if let Some(row) = newest_of(source) {
         push_step(&mut steps, row)?;
     }
     Ok(steps)
@@ -134,8 +214,8 @@ fn in_full(steps: Rows<Step>) -> Rows<Step>
     Rows::from_vec(steps)
 }
 
-fn initial_plan(alloc: Global, source: &[VersionRow], initial: Initial) -> Result<Planned, NoMemory>
-    ensures { IfOk result (λ planned. planned ≡ initial_plan source.now initial) }
+fn initial_plan(alloc: Global, source: &Source<'_>, initial: Initial) -> Result<Planned, NoMemory>
+    ensures { IfOk result (λ planned. planned ≡ initial_plan (rows_of source.now) initial) }
 {
     match initial {
         Initial::Fail => Ok(Planned::Conflict(Conflict::InitialRefused)),
@@ -146,11 +226,11 @@ fn initial_plan(alloc: Global, source: &[VersionRow], initial: Initial) -> Resul
 
 fn can_go_on(
     job: &JobName,
-    source: &[VersionRow],
+    source: &Source<'_>,
     from: Option<Guid>,
     last: Option<&VersionRow>,
 ) -> bool
-    ensures { result ≡ can_go_on job.now source.now from (option_copied last.entry) }
+    ensures { result ≡ can_go_on job.now (rows_of source.now) from (option_copied last.entry) }
 {
     match (from, last) {
         (None, None) => true,
@@ -163,12 +243,12 @@ fn can_go_on(
 
 fn partial_plan(
     job: &JobName,
-    source: &[VersionRow],
+    source: &Source<'_>,
     last: Option<&VersionRow>,
     partial: TokenInfo,
 ) -> Result<Planned, NoMemory>
     ensures { IfOk result (λ planned. planned ≡
-        partial_plan job.now source.now (option_copied last.entry) partial) }
+        partial_plan job.now (rows_of source.now) (option_copied last.entry) partial) }
 {
     if !can_go_on(job, source, partial.from, last) {
         return Ok(Planned::Abandon);
@@ -211,26 +291,26 @@ fn conflict_plan(common: Option<&VersionRow>, last: &VersionRow) -> Planned
 fn plan_after(
     alloc: Global,
     job: &JobName,
-    source: &[VersionRow],
-    rows: &[VersionRow],
+    source: &Source<'_>,
+    target: &Target<'_>,
     last: Option<&VersionRow>,
 ) -> Result<Planned, NoMemory>
     ensures { IfOk result (λ planned. planned ≡
-        plan_after job.now source.now rows.now (option_copied last.entry)) }
+        plan_after job.now (rows_of source.now) (onto target.now).rows (option_copied last.entry)) }
 {
     let Some(last) = last else {
         return Ok(Planned::Conflict(Conflict::TargetInUse));
     };
     match own_version(job, source, last.guid) {
         Some(own) => Ok(steps_plan(later_steps(alloc, source, last.guid, own)?)),
-        None => Ok(conflict_plan(newest_common(job, source, rows), last)),
+        None => Ok(conflict_plan(newest_common(job, source, target), last)),
     }
 }
 
-fn has_nothing(target: &Target) -> bool
-    ensures { result ≡ has_nothing target.now }
+fn has_nothing(target: &Target<'_>) -> bool
+    ensures { result ≡ has_nothing (onto target.now) }
 {
-    !target.there || (target.placeholder && newest(target.rows.as_slice()).is_none())
+    !target.there || (target.placeholder && newest_onto(target).is_none())
 }
 
 /// What a replication of a job does next, by the versions of its source and what is known of its target.
@@ -238,21 +318,20 @@ fn has_nothing(target: &Target) -> bool
 pub fn plan(
     alloc: Global,
     job: &JobName,
-    source: &[VersionRow],
-    target: &Target,
+    source: &Source<'_>,
+    target: &Target<'_>,
     initial: Initial,
 ) -> Result<Planned, NoMemory>
-    ensures { IfOk result (λ planned. planned ≡ plan_of job.now source.now target.now initial) }
+    ensures { IfOk result (λ planned. planned ≡ plan_of job.now (rows_of source.now) (onto target.now) initial) }
 {
-    let rows = target.rows.as_slice();
-    let last = newest(rows);
+    let last = newest_onto(target);
     if let Some(partial) = target.partial {
         partial_plan(job, source, last, partial)
-    } else if newest(source).is_none() {
+    } else if newest_of(source).is_none() {
         Ok(Planned::Conflict(Conflict::NoSenderSnapshots))
     } else if has_nothing(target) {
         initial_plan(alloc, source, initial)
     } else {
-        plan_after(alloc, job, source, rows, last)
+        plan_after(alloc, job, source, target, last)
     }
 }

@@ -10,15 +10,17 @@ pub struct TokenInfo {
     pub from: Option<Guid>,
 }
 
-/// What is known of a replication's target.
+/// What is known of a replication's target. Its versions are those that were listed, and then what arrived since.
 #[derive(Drop)]
-pub struct Target {
+pub struct Target<'a> {
     /// Whether the dataset is there.
     pub there: bool,
     /// Whether `zrepl:placeholder` is `on`.
     pub placeholder: bool,
-    /// Its versions in the order of a listing.
-    pub rows: Rows<VersionRow>,
+    /// Its versions in the order of the listing.
+    pub listing: &'a [VersionRow],
+    /// What it received after the listing, in order.
+    pub arrived: &'a [VersionRow],
     /// Its partial receive.
     pub partial: Option<TokenInfo>,
 }

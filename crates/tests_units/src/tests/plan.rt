@@ -3,11 +3,13 @@
 use super::is;
 use std::alloc::{AllocError, Global};
 use tests_pools::{Asked, before, job, number, rows_of, shown, written};
+use zr_command::{VersionRow, is_snap};
 use zr_names::{Guid, Initial};
-use zr_plan::{Conflict, Planned, Step, Target, TokenInfo, plan};
+use zr_plan::{Conflict, Planned, Source, Step, Target, TokenInfo, plan};
 
 /// What is known of the target, the policy and the guids of a partial receive; then the rows of the source and the target,
-/// each with its guid and its transaction group, and the plan of the job `push`.
+/// each with its guid and its transaction group, and the plan of the job `push`. The source's marks are the bookmarks of its
+/// listing, or those behind `with`; behind `then` stands what the target received since it was listed.
 const BLOCKS: &str = "\
 plans_onto_a_target_with_versions: the target has what the source has
 there fail
@@ -60,6 +62,23 @@ there fail
 plans_onto_a_target_with_versions: the source has a cursor alone
 there fail
   #zrepl_CURSOR_G_0000000000000001_J_push:1:10 onto @a:1:5 => no sender snapshots
+
+plans_with_the_marks_as_they_are_now: a cursor that was made or destroyed since the listing
+there fail
+  @b:2:20 with #zrepl_CURSOR_G_0000000000000001_J_push:1:10 onto @a:1:5 => step b 2;
+  #zrepl_CURSOR_G_0000000000000001_J_push:1:10 @b:2:20 with nothing onto @a:1:5 => no common
+  @a:1:10 #zrepl_CURSOR_G_0000000000000001_J_push:1:25 @b:2:20 @c:3:30 with nothing onto @a:1:5 => step b 2;step c 3;
+
+plans_onto_what_arrived: it comes after what was listed
+there fail
+  @a:1:10 @b:2:20 @c:3:30 onto @a:1:5 then @b:2:6 => step c 3;
+  @a:1:10 @b:2:20 @c:3:30 onto nothing then @b:2:6 @c:3:7 => up to date
+  @a:1:10 @b:2:20 @c:3:30 onto @a:1:5 @b:2:6 then @x:9:7 => diverged 2 9
+  @a:1:10 @b:2:20 @c:3:30 onto @a:1:5 then @b:2:6 @x:9:7 => diverged 2 9
+
+plans_onto_what_arrived: a placeholder that received a snapshot is none that has nothing
+placeholder all
+  @a:1:10 @b:2:20 onto nothing then @a:1:5 => step b 2;
 
 plans_onto_a_partial_receive: the first snapshot with the guid
 there fail part 2 none
@@ -182,25 +201,39 @@ fn token_of(guids: &str) -> Option<TokenInfo> {
     Some(TokenInfo { to, from })
 }
 
-fn target_of(alloc: Global, state: &str, rows: &str) -> Option<Target> {
-    let partial = match state.split_once(" part ") {
-        Some((_, guids)) => Some(token_of(guids)?),
-        None => None,
-    };
-    Some(Target {
-        there: !state.starts_with("absent"),
-        placeholder: state.starts_with("placeholder"),
-        rows: rows_of(alloc, rows)?,
-        partial,
-    })
+fn partial_of(state: &str) -> Option<Option<TokenInfo>> {
+    match state.split_once(" part ") {
+        Some((_, guids)) => Some(Some(token_of(guids)?)),
+        None => Some(None),
+    }
+}
+
+/// The bookmarks among some rows.
+fn marks_of(alloc: Global, rows: &str) -> Option<Vec<VersionRow>> {
+    let mut rows = rows_of(alloc, rows)?.into_vec();
+    rows.retain(|row| !is_snap(row));
+    Some(rows)
 }
 
 fn planned(alloc: Global, state: &str, ask: &str) -> Option<Planned> {
-    let (source, rows) = ask.split_once(" onto ")?;
+    let (source, target) = ask.split_once(" onto ")?;
+    let (listing, marks) = source.split_once(" with ").unwrap_or((source, source));
+    let (listed, arrived) = target.split_once(" then ").unwrap_or((target, "nothing"));
+    let (listing, marks) = (rows_of(alloc, listing)?, marks_of(alloc, marks)?);
+    let (listed, arrived) = (rows_of(alloc, listed)?, rows_of(alloc, arrived)?);
+    let source = Source {
+        listing: listing.as_slice(),
+        marks: marks.as_slice(),
+    };
+    let target = Target {
+        there: !state.starts_with("absent"),
+        placeholder: state.starts_with("placeholder"),
+        listing: listed.as_slice(),
+        arrived: arrived.as_slice(),
+        partial: partial_of(state)?,
+    };
     let job = job(alloc, "push")?;
-    let source = rows_of(alloc, source)?;
-    let target = target_of(alloc, state, rows)?;
-    plan(alloc, &job, source.as_slice(), &target, initial_of(state)).ok()
+    plan(alloc, &job, &source, &target, initial_of(state)).ok()
 }
 
 /// What is known of a target, and the policy.
