@@ -14,11 +14,11 @@ const PAUSE: i32 = 50;
 /// What a child writes, where one can wait for it a while.
 pub trait Audible {
     /// Waits for something to read, `PAUSE` at most. It answers whether there was nothing.
-    fn is_silent(&mut self) -> bool;
+    fn stays_silent(&mut self) -> bool;
 }
 
 impl Audible for ChildStdout {
-    fn is_silent(&mut self) -> bool {
+    fn stays_silent(&mut self) -> bool {
         let mut asked = [pollfd {
             fd: self.as_raw_fd(),
             events: POLLIN,
@@ -40,12 +40,15 @@ fn has_failed<S: OpenProcess>(child: &mut Child<S>) -> bool
 }
 
 /// Waits until a read of what the sending end writes need not wait, unless the receiving end has failed.
-fn listen<S: OpenProcess>(output: &mut S::Stdout, receiver: &mut Child<S>) -> Result<(), Failed>
+fn wait_for_output<S: OpenProcess>(
+    output: &mut S::Stdout,
+    receiver: &mut Child<S>,
+) -> Result<(), Failed>
 where
     S::Stdout: Audible,
 {
     for _ in 0..u64::MAX {
-        if !output.is_silent() {
+        if !output.stays_silent() {
             break;
         }
         if has_failed(receiver) {
@@ -83,7 +86,7 @@ where
     ghost left = { λ _. None };
 
     fn take(&mut self, buf: &mut [u8]) -> Result<usize, Failed> {
-        let taken = match listen(&mut self.output, self.receiver) {
+        let taken = match wait_for_output(&mut self.output, self.receiver) {
             Ok(()) => Input::new(&mut self.output).take(buf),
             Err(fault) => Err(fault),
         };

@@ -65,7 +65,7 @@ struct Text {
 }
 
 impl Audible for Text {
-    fn is_silent(&mut self) -> bool {
+    fn stays_silent(&mut self) -> bool {
         let was_silent = self.silence > 0;
         self.silence = self.silence.saturating_sub(1);
         was_silent
