@@ -50,6 +50,9 @@ pub trait Sink {
         ensures whole { OnOk result (written self.new ≡ append_known (written self.old) bytes.now) }
         ensures front { OnErr result (WroteFront (written self.old) (written self.new) bytes.now) }
 
+        // Where memory is wanting, nothing was written.
+        ensures no_memory_writes_nothing { result ≡ Err PutFault.NoMemory → written self.new ≡ written self.old }
+
         // The count rises where a put fails, and only there: want of memory is no fault of the sink.
         ensures failed_rose { result ≡ Err PutFault.Failed → Rose (faults self.old) (faults self.new) }
         ensures ok_keeps { OnOk result (faults self.new ≡ faults self.old) }

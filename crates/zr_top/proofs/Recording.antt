@@ -12,10 +12,11 @@ use Rattle.zr_jobfile.specs.declared.JobFault.TheVariants as fault
 use Rattle.zr_exec.specs.Entries.{entries_of}
 use Rattle.zr_exec.specs.Running.{Running}
 use Rattle.zr_exec.proofs.Told.{same_program}
+use Rattle.zr_pipe.specs.Ends.{WroteFront}
 use Rattle.zr_top.specs.Clock.{Ticks}
 use Rattle.zr_top.specs.Attempts.{AreNumbered, Attempt, entries, IsGood, no_totals, totals_of}
 use Rattle.zr_top.specs.Due.{IsDue, RanDue}
-use Rattle.zr_top.specs.Records.{fault_line, FirstHas, FirstNext, FirstRan, FirstRose, IsFrontOf, IsNext, Known, RanBytes, RanFile, RanJobs, RanNext, Told, Unrun, View, Wrote, WroteFrontOf, zfs}
+use Rattle.zr_top.specs.Records.{fault_line, FirstHas, FirstNext, FirstRan, FirstRose, IsFrontOf, IsNext, Known, RanBytes, RanFile, RanJobs, RanNext, Told, Unrun, View, Wrote, WroteAllOrNothing, WroteFrontOf, WroteLineOrNothing, WroteText, zfs}
 use Rattle.zr_top.specs.Status.{code_of, is_conflict_or_too_long, is_garbled, is_unrun, Printed, some_ended, status_of, status_of_runs}
 use Rattle.zr_top.specs.Totals.{totals_text}
 use Rattle.zr_top.proofs.Books.{balanced}
@@ -68,11 +69,12 @@ pub record RanFirst (jobs : JobSet) (moments : Option (List ℕ)) (totals : Tota
   pub totals_are : totals ≡ totals_of attempts
 
 -- what became of the line of some totals: the status, and what was written
-pub record LinePrinted (totals : Totals) (wrote_before wrote : Known) (given : Status) : Type 0 where
+pub record LinePrinted (totals : Totals) (before now : View) (given : Status) : Type 0 where
   pub memory_first : status_of totals ≡ status.OutOfMemory → given ≡ status.OutOfMemory
   pub by_totals : Printed (status_of totals) given
-  pub printed : Wrote given wrote_before wrote (totals_text totals)
-  pub front : WroteFrontOf wrote_before wrote (totals_text totals)
+  pub printed : Wrote given before.written now.written (totals_text totals)
+  pub front : WroteFrontOf before.written now.written (totals_text totals)
+  pub whole : WroteLineOrNothing before now (totals_text totals)
 
 -- the totals have a failed child only where the count of the first runner's faults rose
 abbrev pub TotalsRose : Totals → View → View → Type 0
@@ -96,13 +98,14 @@ first-next jobs moments (b ∷ others) (n ∷ left) totals ran = (
 )
 
 -- all that was due was attempted with the first runner, and the totals were printed
-pub ran-jobs : (jobs : JobSet) (moments : Option (List ℕ)) (before now : View) (totals : Totals) (given : Status) → FirstRan jobs moments before.records now.records (Ok totals) → TotalsRose totals before now → LinePrinted totals before.written now.written given → RanJobs jobs moments before now given
+pub ran-jobs : (jobs : JobSet) (moments : Option (List ℕ)) (before now : View) (totals : Totals) (given : Status) → FirstRan jobs moments before.records now.records (Ok totals) → TotalsRose totals before now → LinePrinted totals before now given → RanJobs jobs moments before now given
 ran-jobs jobs moments before now totals given ran rose line =
     let first = first-next jobs moments before.records now.records totals ran in
     let attempts = first.0.attempts in
     let are = first.0.totals_are in
     let printed = printed-of-runs attempts totals given are line.by_totals in
     let Front : Totals → Type 0 = λ t. WroteFrontOf before.written now.written (totals_text t) in
+    let Whole : Totals → Type 0 = λ t. WroteLineOrNothing before now (totals_text t) in
     record {
       moment = first.0.moment;
       next = first.0.next;
@@ -119,30 +122,35 @@ ran-jobs jobs moments before now totals given ran rose line =
       printed = λ loud. line.printed loud ∙ ap (λ t. append_known before.written (totals_text t ++ 10 ∷ [])) are;
       memory_first = λ memory. line.memory_first (ap status_of are ∙ status-of-runs attempts ∙ memory-status attempts memory);
       front = subst Front are line.front;
+      whole = subst Whole are line.whole;
     }
 
 silent : true ≡ false → ⊥
 silent e = cc
 
 -- the line of some totals was given to be printed
-pub line-printed : (totals : Totals) (wanted : Status) (wrote_before wrote : Known) (given : Status) (line : List ℕ) → wanted ≡ status_of totals → line ≡ totals_text totals → Printed wanted given → (wanted ≡ status.OutOfMemory → given ≡ status.OutOfMemory) → Wrote given wrote_before wrote line → WroteFrontOf wrote_before wrote line → LinePrinted totals wrote_before wrote given
-line-printed totals wanted wrote_before wrote given line of is printed first writes front =
+pub line-printed : (totals : Totals) (wanted : Status) (before now : View) (given : Status) (text : List ℕ) → wanted ≡ status_of totals → text ≡ totals_text totals ++ 10 ∷ [] → Printed wanted given → (wanted ≡ status.OutOfMemory → given ≡ status.OutOfMemory) → WroteText given before.written now.written text → WroteFront before.written now.written text → WroteAllOrNothing before.write_faults now.write_faults before.written now.written text → LinePrinted totals before now given
+line-printed totals wanted before now given text of is printed first writes front whole =
     let By : Status → Type 0 = λ s. Printed s given in
-    let Front : List ℕ → Type 0 = λ text. WroteFrontOf wrote_before wrote text in
+    let Writes : List ℕ → Type 0 = λ t. WroteText given before.written now.written t in
+    let Front : List ℕ → Type 0 = λ t. WroteFront before.written now.written t in
+    let Whole : List ℕ → Type 0 = λ t. WroteAllOrNothing before.write_faults now.write_faults before.written now.written t in
     record {
       by_totals = subst By of printed;
       memory_first = λ memory. first (of ∙ memory);
-      printed = λ loud. writes loud ∙ ap (λ text. append_known wrote_before (text ++ 10 ∷ [])) is;
+      printed = subst Writes is writes;
       front = subst Front is front;
+      whole = subst Whole is whole;
     }
 
 -- there was no memory for the line
-pub no-line : (totals : Totals) (told : Known) → LinePrinted totals told told status.OutOfMemory
-no-line totals told = record {
+pub no-line : (totals : Totals) (before now : View) → now.written ≡ before.written → LinePrinted totals before now status.OutOfMemory
+no-line totals before now nothing = record {
   by_totals = inr (inr refl);
   memory_first = λ memory. refl;
   printed = λ loud. absurd (silent loud);
-  front = wrote-nothing told (totals_text totals);
+  front = subst (λ (w : Known). WroteFrontOf before.written w (totals_text totals)) (sym nothing) (wrote-nothing before.written (totals_text totals));
+  whole = λ sound. inr nothing;
 }
 
 -- nothing was run, and nothing was printed, for want of memory
@@ -155,6 +163,7 @@ idle-short file before now same silent =
       line = line;
       of_file = inl refl;
       front = subst (λ (w : Known). WroteFrontOf before.written w line) (sym silent) (wrote-nothing before.written line);
+      whole = λ sound. inr silent;
     }
 
 -- what was read of a file was run, or nothing was
@@ -169,13 +178,14 @@ printed-unrun given (inr (inl is)) = ap is_unrun is
 printed-unrun given (inr (inr is)) = ap is_unrun is
 
 -- a file that could not be read was not run
-pub unread-unrun : (file : List ℕ) (before now : View) (given : Status) → now.records ≡ before.records → Printed status.Unreadable given → WroteFrontOf before.written now.written (codes "cannot read " ++ file) → Unrun file before now given
-unread-unrun file before now given same printed front = record {
+pub unread-unrun : (file : List ℕ) (before now : View) (given : Status) → now.records ≡ before.records → Printed status.Unreadable given → WroteFrontOf before.written now.written (codes "cannot read " ++ file) → WroteLineOrNothing before now (codes "cannot read " ++ file) → Unrun file before now given
+unread-unrun file before now given same printed front whole = record {
   same = same;
   unrun = printed-unrun given printed;
   line = codes "cannot read " ++ file;
   of_file = inl refl;
   front = front;
+  whole = whole;
 }
 
 no-toml : fault.NotToml ≢ fault.NoMemory
@@ -188,19 +198,20 @@ too-long : fault.TooManyBytes ≢ fault.NoMemory
 too-long e = cc
 
 -- a job file gave no jobs: it is refused, or there was no memory
-pub no-jobs-unrun : (file : List ℕ) (before now : View) (given : Status) (why : JobFault) → now.records ≡ before.records → is_unrun given ≡ true → (why ≢ fault.NoMemory → WroteFrontOf before.written now.written (fault_line why)) → (why ≡ fault.NoMemory → now.written ≡ before.written) → Unrun file before now given
-no-jobs-unrun file before now given why same unrun loud silent = choose why loud silent where
-  refused : (why : JobFault) → why ≢ fault.NoMemory → WroteFrontOf before.written now.written (fault_line why) → Unrun file before now given
-  refused why other front = record {
+pub no-jobs-unrun : (file : List ℕ) (before now : View) (given : Status) (why : JobFault) → now.records ≡ before.records → is_unrun given ≡ true → (why ≢ fault.NoMemory → WroteFrontOf before.written now.written (fault_line why)) → (why ≢ fault.NoMemory → WroteLineOrNothing before now (fault_line why)) → (why ≡ fault.NoMemory → now.written ≡ before.written) → Unrun file before now given
+no-jobs-unrun file before now given why same unrun loud whole silent = choose why loud whole silent where
+  refused : (why : JobFault) → why ≢ fault.NoMemory → WroteFrontOf before.written now.written (fault_line why) → WroteLineOrNothing before now (fault_line why) → Unrun file before now given
+  refused why other front whole = record {
     same = same;
     unrun = unrun;
     line = fault_line why;
     of_file = inr (why, other, refl);
     front = front;
+    whole = whole;
   }
 
-  choose : (why : JobFault) → (why ≢ fault.NoMemory → WroteFrontOf before.written now.written (fault_line why)) → (why ≡ fault.NoMemory → now.written ≡ before.written) → Unrun file before now given
-  choose fault.NoMemory loud silent =
+  choose : (why : JobFault) → (why ≢ fault.NoMemory → WroteFrontOf before.written now.written (fault_line why)) → (why ≢ fault.NoMemory → WroteLineOrNothing before now (fault_line why)) → (why ≡ fault.NoMemory → now.written ≡ before.written) → Unrun file before now given
+  choose fault.NoMemory loud whole silent =
       let line = codes "cannot read " ++ file in
       record {
         same = same;
@@ -208,10 +219,11 @@ no-jobs-unrun file before now given why same unrun loud silent = choose why loud
         line = line;
         of_file = inl refl;
         front = subst (λ (w : Known). WroteFrontOf before.written w line) (sym (silent refl)) (wrote-nothing before.written line);
+        whole = λ sound. inr (silent refl);
       }
-  choose fault.NotToml loud silent = refused fault.NotToml no-toml (loud no-toml)
-  choose fault.NotBuilt loud silent = refused fault.NotBuilt no-jobs (loud no-jobs)
-  choose fault.TooManyBytes loud silent = refused fault.TooManyBytes too-long (loud too-long)
+  choose fault.NotToml loud whole silent = refused fault.NotToml no-toml (loud no-toml) (whole no-toml)
+  choose fault.NotBuilt loud whole silent = refused fault.NotBuilt no-jobs (loud no-jobs) (whole no-jobs)
+  choose fault.TooManyBytes loud whole silent = refused fault.TooManyBytes too-long (loud too-long) (whole too-long)
 
 -- the jobs of some bytes were run, or nothing was
 pub bytes-ran : (file bytes : List ℕ) (jobs : JobSet) (moments : Option (List ℕ)) (before now : View) (given : Status) → ReadsJobs bytes (Ok jobs) → Unrun file before now given ⊎ RanJobs jobs moments before now given → Unrun file before now given ⊎ RanBytes bytes moments before now given

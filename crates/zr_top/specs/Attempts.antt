@@ -1,4 +1,4 @@
-use Rattle.std.specs.Prelude.{⊤, ◌≡◌, ℕ, ◌+◌, ◌-◌, ◌^◌, min, false, List, [], ◌∷◌, Option, Some, None, All, flat_map, fold, map}
+use Rattle.std.specs.Prelude.{⊤, ◌≡◌, ℕ, ◌+◌, ◌-◌, ◌^◌, min, List, [], ◌∷◌, Option, Some, None, All, flat_map, fold, map}
 use Rattle.zr_names.specs.declared.outcome.Outcome.{Outcome}
 use Rattle.zr_names.specs.declared.outcome.Outcome.TheVariants as outcome
 use Rattle.zr_names.specs.declared.totals.Totals.{Totals}

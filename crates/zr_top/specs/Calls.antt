@@ -4,21 +4,21 @@ use Rattle.zr_base.specs.Count.{Rose}
 use Rattle.zr_jobs.specs.declared.job.JobSet.{JobSet}
 use Rattle.zr_jobfile.specs.declared.TheConstants.{FILE_LIMIT}
 use Rattle.zr_jobfile.specs.JobFile.{ReadsJobs}
+use Rattle.zr_pipe.specs.Ends.{WroteFront}
 use Rattle.zr_top.specs.declared.report.TheConstants.{USAGE}
 use Rattle.zr_top.specs.declared.status.Status.{Status}
-use Rattle.zr_top.specs.Records.{FirstRose, RanFile, RefusalPrinted, View, WroteFrontOf}
+use Rattle.zr_top.specs.Records.{FirstRose, RanFile, RefusalPrinted, View, WroteAllOrNothing}
 use Rattle.zr_top.specs.Status.{code_of, IsRefused}
 use Rattle.zr_top.specs.Stored.{Asked, AsksAtMost}
 use Rattle.zr_top.specs.Words.{file_of}
 
 -- what the objects of a call tell before it or after it: the count of the faults of reading, the path that failed last and
--- the paths that were asked for; what the runners and the output tell; and the count of the faults of writing
+-- the paths that were asked for; and what the runners and the output tell
 pub record Edges : Type 0 where
   pub read_faults : ℕ
   pub unread : Option (List ℕ)
   pub asked : Asked
   pub view : View
-  pub write_faults : ℕ
 
 -- a call of the program: its words, what files contain, the clock's moments, what its objects tell before and after, and
 -- the status
@@ -30,14 +30,9 @@ pub record Call : Type 0 where
   pub after : Edges
   pub status : ℕ
 
-abbrev pub edges : ℕ → Option (List ℕ) → Asked → View → ℕ → Edges
-edges read_faults unread asked view write_faults = record {
-  read_faults = read_faults;
-  unread = unread;
-  asked = asked;
-  view = view;
-  write_faults = write_faults;
-}
+abbrev pub edges : ℕ → Option (List ℕ) → Asked → View → Edges
+edges read_faults unread asked view =
+    record { read_faults = read_faults; unread = unread; asked = asked; view = view }
 
 abbrev pub call : List (List ℕ) → (List ℕ → Option (List ℕ)) → Option (List ℕ) → Edges → Edges → ℕ → Call
 call words content moments before after status = record {
@@ -65,7 +60,7 @@ front whole = take (FILE_LIMIT + 1) whole
 -- no fault of the call's own: its files, its output and its first runner failed at nothing
 pub record IsSound (c : Call) : Type 0 where
   pub files : ¬ Rose c.before.read_faults c.after.read_faults
-  pub output : ¬ Rose c.before.write_faults c.after.write_faults
+  pub output : ¬ Rose c.before.view.write_faults c.after.view.write_faults
   pub children : ¬ FirstRose c.before.view.child_faults c.after.view.child_faults
 
 -- the promises of a call of `zrepl`
@@ -92,11 +87,14 @@ pub record Keeps (c : Call) : Type 0 where
   pub complete :
       (file whole : List ℕ) (jobs : JobSet) → Finds c file whole → ReadsJobs (front whole) (Ok jobs) → IsSound c →
       Contains (0 ∷ 4 ∷ 6 ∷ 9 ∷ []) c.status
-  -- one line is all that is printed, and a front of it at most where the output or memory failed; that of a named file is
-  -- part of `ran`
-  pub usage_front : file_of c.words ≡ None → WroteFrontOf c.before.view.written c.after.view.written USAGE.now
+  -- one line is all that is printed, and a front of it at most where the output or memory failed: all of it or nothing where
+  -- the output did not; that of a named file is part of `ran`
+  pub usage_front : file_of c.words ≡ None → WroteFront c.before.view.written c.after.view.written USAGE.now
+  pub usage_whole :
+      file_of c.words ≡ None →
+      WroteAllOrNothing c.before.view.write_faults c.after.view.write_faults c.before.view.written c.after.view.written USAGE.now
   pub usage_printed :
-      c.status ≡ 2 → c.after.view.written ≡ append_known c.before.view.written (USAGE.now ++ 10 ∷ [])
+      c.status ≡ 2 → c.after.view.written ≡ append_known c.before.view.written USAGE.now
   pub refusal_printed :
       c.status ≡ 3 → (file whole : List ℕ) → Finds c file whole →
       RefusalPrinted (front whole) c.before.view.written c.after.view.written
@@ -106,4 +104,4 @@ pub record Keeps (c : Call) : Type 0 where
   -- 7 and 8 only where the count of the faults of reading, of writing, rose in this call
   pub unreadable :
       c.status ≡ 7 → Rose c.before.read_faults c.after.read_faults × (file_of c.words ≡ c.after.unread)
-  pub unwritable : c.status ≡ 8 → Rose c.before.write_faults c.after.write_faults
+  pub unwritable : c.status ≡ 8 → Rose c.before.view.write_faults c.after.view.write_faults

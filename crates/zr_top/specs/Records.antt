@@ -34,15 +34,20 @@ abbrev pub Known : Type 0
 Known = Option (List ℕ)
 
 -- what the runners and the output tell, before a call or after it: the runners' records, the counts of their children's
--- faults, and what was written
+-- faults, what was written, and the count of the faults of writing
 pub record View : Type 0 where
   pub records : List Told
   pub child_faults : List ℕ
   pub written : Known
+  pub write_faults : ℕ
 
-abbrev pub view : {R : Type 0} → (R → Told) → (R → ℕ) → List R → Known → View
-view told faults runners written =
-    record { records = map told runners; child_faults = map faults runners; written = written }
+abbrev pub view : {R : Type 0} → (R → Told) → (R → ℕ) → List R → Known → ℕ → View
+view told faults runners written write_faults = record {
+  records = map told runners;
+  child_faults = map faults runners;
+  written = written;
+  write_faults = write_faults;
+}
 
 -- the next moment of a clock, where it tells its moments
 abbrev pub IsNext : Option (List ℕ) → Option ℕ → Type 0
@@ -87,13 +92,27 @@ is_silent status.Unwritable = true
 is_silent status.OutOfMemory = true
 is_silent other = false
 
--- this line is all that was printed, unless the output or memory failed
+-- this text is all that was printed, unless the output or memory failed
+abbrev pub WroteText : Status → Known → Known → List ℕ → Type 0
+WroteText given before now text = is_silent given ≡ false → now ≡ append_known before text
+
+-- the same of a line
 abbrev pub Wrote : Status → Known → Known → List ℕ → Type 0
-Wrote given before now line = is_silent given ≡ false → now ≡ append_known before (line ++ 10 ∷ [])
+Wrote given before now line = WroteText given before now (line ++ 10 ∷ [])
 
 -- a front of this line is all that was written
 abbrev pub WroteFrontOf : Known → Known → List ℕ → Type 0
 WroteFrontOf before now line = WroteFront before now (line ++ 10 ∷ [])
+
+-- where the count of the faults of writing did not rise, all of this text was written, or nothing
+abbrev pub WroteAllOrNothing : ℕ → ℕ → Known → Known → List ℕ → Type 0
+WroteAllOrNothing faults_before faults before now text =
+    ¬ Rose faults_before faults → (now ≡ append_known before text) ⊎ (now ≡ before)
+
+-- the same of a line, by what an output tells
+abbrev pub WroteLineOrNothing : View → View → List ℕ → Type 0
+WroteLineOrNothing before now line =
+    WroteAllOrNothing before.write_faults now.write_faults before.written now.written (line ++ 10 ∷ [])
 
 -- all that is due for these jobs was attempted with the first runner, and the totals were printed: one list of attempts
 -- for all that is said
@@ -115,9 +134,11 @@ pub record RanJobs (jobs : JobSet) (moments : Option (List ℕ)) (before now : V
   pub memory_first : some_ended is_out_of_memory attempts ≡ true → given ≡ status.OutOfMemory
   pub status : Printed (status_of_runs attempts) given
   pub means : Means given attempts
-  -- the totals were printed, and whatever failed, nothing but a front of them was written
+  -- the totals were printed, and whatever failed, nothing but a front of them was written: all of them or nothing, where
+  -- the output did not fail
   pub printed : Wrote given before.written now.written (totals_text (totals_of attempts))
   pub front : WroteFrontOf before.written now.written (totals_text (totals_of attempts))
+  pub whole : WroteLineOrNothing before now (totals_text (totals_of attempts))
 
 -- the line of a job file's fault
 abbrev pub fault_line : JobFault → List ℕ
@@ -131,13 +152,15 @@ abbrev pub IsIdleLine : List ℕ → List ℕ → Type 0
 IsIdleLine file line =
     (line ≡ codes "cannot read " ++ file) ⊎ ((why : JobFault) × (why ≢ fault.NoMemory) × (line ≡ fault_line why))
 
--- nothing was run of this file, and a front of its line at most was written
+-- nothing was run of this file, and a front of its line at most was written: all of it or nothing, where the output did not
+-- fail
 pub record Unrun (file : List ℕ) (before now : View) (given : Status) : Type 0 where
   pub same : now.records ≡ before.records
   pub unrun : is_unrun given ≡ true
   pub line : List ℕ
   pub of_file : IsIdleLine file line
   pub front : WroteFrontOf before.written now.written line
+  pub whole : WroteLineOrNothing before now line
 
 -- the bytes that were read of a file are its first ones, where its content is told
 abbrev pub IsFrontOf : Option (List ℕ) → List ℕ → Type 0

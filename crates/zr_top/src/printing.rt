@@ -1,8 +1,8 @@
-ghost use Rattle.std.specs.Prelude.{true, ◌≡◌, ◌≢◌, ◌⊎◌, ◌≤◌, ◌++◌, ◌∷◌, [], Err, IfErr, OnErr, OnOk};
+ghost use Rattle.std.specs.Prelude.{true, ◌≡◌, ◌≢◌, ◌⊎◌, [], ◌∷◌, ◌++◌, Err, IfErr, OnOk};
 ghost use Rattle.zr_pipe.specs.Faults.{Rose};
 ghost use Rattle.std.specs.Io.KnownBytes.{append_known};
 ghost use Rattle.zr_pipe.specs.Ends.{WroteFront};
-ghost use Rattle.zr_top.specs.Records.{fault_line, Wrote, WroteFrontOf};
+ghost use Rattle.zr_top.specs.Records.{fault_line, Wrote, WroteAllOrNothing, WroteFrontOf, WroteText};
 ghost use Rattle.zr_top.specs.Status.{is_unrun, Printed};
 ghost use Rattle.zr_jobfile.specs.declared.JobFault.TheVariants.{NoMemory as OutOfMemory};
 
@@ -11,12 +11,14 @@ use zr_jobfile::JobFault;
 use zr_pipe::{PutFault, Sink};
 
 /// Writes some bytes.
+#[tactic(auto, using(crate::proofs::Fronts::front_whole))]
 fn put<S: Sink>(out: &mut S, text: &[u8]) -> Result<(), Status>
     ensures fault { IfErr result (λ status. (status ≡ Status.Unwritable) ⊎ (status ≡ Status.OutOfMemory)) }
     ensures cause { result ≡ Err Status.Unwritable → Rose (S.faults out.old) (S.faults out.new) }
-    ensures ok_keeps { OnOk result (S.faults out.new ≡ S.faults out.old) }
     ensures written { OnOk result (S.written out.new ≡ append_known (S.written out.old) text.now) }
-    ensures front { OnErr result (WroteFront (S.written out.old) (S.written out.new) text.now) }
+    ensures front { WroteFront (S.written out.old) (S.written out.new) text.now }
+    ensures whole { WroteAllOrNothing (S.faults out.old) (S.faults out.new)
+        (S.written out.old) (S.written out.new) text.now }
 {
     match out.put(text) {
         Ok(()) => Ok(()),
@@ -25,30 +27,19 @@ fn put<S: Sink>(out: &mut S, text: &[u8]) -> Result<(), Status>
     }
 }
 
-/// Writes a line, or a front of it.
-fn put_line<S: Sink>(out: &mut S, line: &str) -> Result<(), Status>
-    ensures fault { IfErr result (λ status. (status ≡ Status.Unwritable) ⊎ (status ≡ Status.OutOfMemory)) }
-    ensures cause { result ≡ Err Status.Unwritable → Rose (S.faults out.old) (S.faults out.new) }
-    ensures written { OnOk result (S.written out.new ≡ append_known (S.written out.old) (line.now ++ 10 ∷ [])) }
-    ensures front { WroteFrontOf (S.written out.old) (S.written out.new) line.now }
-{
-    match put(out, line.as_bytes()) {
-        Ok(()) => put(out, b"\n"),
-        Err(fault) => Err(fault),
-    }
-}
-
-/// Prints a line and gives the status, or the fault of the output. Want of memory is told first, whatever became of the
-/// line.
+/// Prints a line with its newline and gives the status, or the fault of the output. Want of memory is told first, whatever
+/// became of the line.
 pub fn print<S: Sink>(out: &mut S, line: &str, status: Status) -> Status
     requires { status ≢ Status.Unwritable }
     ensures printed { Printed status result }
     ensures memory_first { status ≡ Status.OutOfMemory → result ≡ Status.OutOfMemory }
-    ensures wrote { Wrote result (S.written out.old) (S.written out.new) line.now }
-    ensures front { WroteFrontOf (S.written out.old) (S.written out.new) line.now }
+    ensures wrote { WroteText result (S.written out.old) (S.written out.new) line.now }
+    ensures front { WroteFront (S.written out.old) (S.written out.new) line.now }
+    ensures whole { WroteAllOrNothing (S.faults out.old) (S.faults out.new)
+        (S.written out.old) (S.written out.new) line.now }
     ensures cause { result ≡ Status.Unwritable → Rose (S.faults out.old) (S.faults out.new) }
 {
-    match put_line(out, line) {
+    match put(out, line.as_bytes()) {
         Ok(()) => status,
         Err(_) if status == Status::OutOfMemory => status,
         Err(fault) => fault,
@@ -63,12 +54,14 @@ pub fn refuse<S: Sink>(out: &mut S, fault: JobFault) -> Status
     ensures unrun { is_unrun result ≡ true }
     ensures wrote { Wrote result (S.written out.old) (S.written out.new) (fault_line fault) }
     ensures front { fault ≢ OutOfMemory → WroteFrontOf (S.written out.old) (S.written out.new) (fault_line fault) }
+    ensures whole { fault ≢ OutOfMemory → WroteAllOrNothing (S.faults out.old) (S.faults out.new)
+        (S.written out.old) (S.written out.new) (fault_line fault ++ 10 ∷ []) }
     ensures silent { fault ≡ OutOfMemory → S.written out.new ≡ S.written out.old }
 {
     match fault {
-        JobFault::TooManyBytes => print(out, "job file: TooMany Bytes", Status::JobFile),
-        JobFault::NotToml => print(out, "job file: NotToml", Status::JobFile),
-        JobFault::NotBuilt => print(out, "job file: NotBuilt", Status::JobFile),
+        JobFault::TooManyBytes => print(out, "job file: TooMany Bytes\n", Status::JobFile),
+        JobFault::NotToml => print(out, "job file: NotToml\n", Status::JobFile),
+        JobFault::NotBuilt => print(out, "job file: NotBuilt\n", Status::JobFile),
         JobFault::NoMemory => Status::OutOfMemory,
     }
 }

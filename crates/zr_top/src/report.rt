@@ -1,4 +1,4 @@
-ghost use Rattle.std.specs.Prelude.{◌≡◌, ◌∷◌, ◌++◌, IfOk, OnOk};
+ghost use Rattle.std.specs.Prelude.{◌≡◌, [], ◌∷◌, ◌++◌, IfOk, OnOk};
 ghost use Rattle.std.specs.String.{string_bytes};
 ghost use Rattle.std.specs.Fmt.{decimal};
 ghost use Rattle.zr_top.specs.Totals.{ends_text, field, places_text, steps_text, totals_text, units_text};
@@ -6,9 +6,9 @@ ghost use Rattle.zr_top.specs.Totals.{ends_text, field, places_text, steps_text,
 use std::alloc::{AllocError, Global};
 use zr_names::Totals;
 
-/// What is printed where the words are no command.
+/// What is printed where the words are no command, with its newline.
 pub const USAGE: &str =
-    "usage: zrepl once|daemon|configcheck|status|plan FILE, or drill NUMBER; options --workers N --ticks N --zfs PROGRAM";
+    "usage: zrepl once|daemon|configcheck|status|plan FILE, or drill NUMBER; options --workers N --ticks N --zfs PROGRAM\n";
 
 #[tactic(auto, unfolding(crate::specs::Totals::field))]
 fn put_field(line: &mut String, name: &str, value: u64) -> Result<(), AllocError>
@@ -64,9 +64,9 @@ fn put_ends(line: &mut String, totals: &Totals) -> Result<(), AllocError>
     put_next(line, "nomemory", totals.nomemory)
 }
 
-/// The totals as one line, without its newline.
+/// The totals as one line, with its newline.
 pub fn totals_line(alloc: Global, totals: &Totals) -> Result<String, AllocError>
-    ensures { IfOk result (λ line. string_bytes line ≡ totals_text totals.now) }
+    ensures { IfOk result (λ line. string_bytes line ≡ totals_text totals.now ++ 10 ∷ []) }
 {
     let mut line = String::new(alloc);
     put_units(&mut line, totals)?;
@@ -76,5 +76,6 @@ pub fn totals_line(alloc: Global, totals: &Totals) -> Result<String, AllocError>
     put_places(&mut line, totals)?;
     line.push(' ')?;
     put_ends(&mut line, totals)?;
+    line.push('\n')?;
     Ok(line)
 }

@@ -4,7 +4,8 @@ ghost use Rattle.zr_base.specs.Count.{Rose};
 
 use crate::piping::pipe_to_end;
 use crate::running::{Starter, run_to_end};
-use std::process::Processes;
+use crate::silence::Audible;
+use std::process::{OpenProcess, Processes};
 use zr_exec::{PipeExit, RunExit, Spawn};
 use zr_names::{NoMemory, Unit};
 
@@ -53,7 +54,10 @@ fn count(failed: bool, faults: &mut u64)
     }
 }
 
-impl<P: Processes> Spawn for RealSpawn<P> {
+impl<P: Processes> Spawn for RealSpawn<P>
+where
+    <P::Started as OpenProcess>::Stdout: Audible,
+{
     ghost faults = { λ s. s.faults };
 
     ghost told = { λ _. None };

@@ -8,6 +8,7 @@ mod clock;
 mod files;
 mod piping;
 mod running;
+mod silence;
 #[cfg(test)]
 mod tests;
 

@@ -1,24 +1,42 @@
-ghost use Rattle.std.specs.Prelude.{◌≡◌, ◌≢◌, ◌↔◌, ℕ, true};
+ghost use Rattle.std.specs.Prelude.{◌≡◌, ◌≢◌, ◌↔◌, ℕ, true, None, is_some};
 ghost use Rattle.std.specs.Process.{child_status};
 ghost use Rattle.zr_pipe.specs.Relay.{is_read_fault, is_write_fault};
 ghost use Rattle.zrepl_main.specs.Ended.{EndedWell};
 
 use crate::running::{Starter, put_down, unended, wait_for};
+use crate::silence::{Audible, Watched};
 use std::alloc::Global;
 use std::process::{Child, OpenProcess, Processes, Stdio};
 use zr_exec::{PipeExit, RunExit};
-use zr_pipe::{Input, Output, RelayEnd, relay};
+use zr_pipe::{Output, RelayEnd, Sink, Source, relay};
 
-/// Moves what the sending end writes to the receiving end, whose input stays open.
+/// Moves all of a source to a sink, and lets the source go.
+fn drain<F: Source + Drop, T: Sink>(alloc: Global, mut from: F, to: &mut T) -> RelayEnd {
+    relay(alloc, &mut from, to)
+}
+
+/// Moves what the sending end writes to the receiving end, whose input stays open, and closes what the sending end writes to.
+/// Where the receiving end fails, a sending end that writes nothing counts as one that can't be read.
 fn move_all<S: OpenProcess>(
     alloc: Global,
     sender: &mut Child<S>,
     receiver: &mut Child<S>,
-) -> RelayEnd {
-    match (&mut sender.stdout, &mut receiver.stdin) {
-        (Some(from), Some(to)) => relay(alloc, &mut Input::new(from), &mut Output::new(to)),
-        _ => RelayEnd::ReadFault(0),
-    }
+) -> RelayEnd
+where
+    S::Stdout: Audible,
+    ensures open { is_some receiver.new.stdin ≡ is_some receiver.old.stdin }
+    ensures closed { sender.new.stdout ≡ None }
+{
+    let Some(output) = sender.stdout.take() else {
+        return RelayEnd::ReadFault(0);
+    };
+    let Some(mut to) = receiver.stdin.take() else {
+        return RelayEnd::ReadFault(0);
+    };
+    let from = Watched::new(output, &mut *receiver);
+    let end = drain(alloc, from, &mut Output::new(&mut to));
+    receiver.stdin = Some(to);
+    end
 }
 
 /// The end of a pipe by the ends of its two children.
@@ -75,6 +93,8 @@ fn finish<S: OpenProcess>(end: RelayEnd, sender: &mut Child<S>, receiver: &mut C
 
 /// Runs two children that were started to their ends.
 fn join<S: OpenProcess>(alloc: Global, sender: &mut Child<S>, receiver: &mut Child<S>) -> PipeExit
+where
+    S::Stdout: Audible,
     ensures sent { result ≡ PipeExit.Done → EndedWell (child_status sender.new) }
     ensures received { result ≡ PipeExit.Done → EndedWell (child_status receiver.new) }
 {
@@ -87,7 +107,10 @@ fn send_to<P: Processes>(
     starter: &Starter<P>,
     send: &[String],
     receiver: &mut Child<P::Started>,
-) -> PipeExit {
+) -> PipeExit
+where
+    <P::Started as OpenProcess>::Stdout: Audible,
+{
     match starter.start(send, Stdio::null(), Stdio::piped()) {
         Ok(mut sender) => join(starter.alloc, &mut sender, receiver),
         Err(fault) => {
@@ -102,7 +125,10 @@ pub fn pipe_to_end<P: Processes>(
     starter: &Starter<P>,
     send: &[String],
     receive: &[String],
-) -> PipeExit {
+) -> PipeExit
+where
+    <P::Started as OpenProcess>::Stdout: Audible,
+{
     match starter.start(receive, Stdio::piped(), Stdio::null()) {
         Ok(mut receiver) => send_to(starter, send, &mut receiver),
         Err(fault) => joined(RunExit::Failed, unended(&fault)),

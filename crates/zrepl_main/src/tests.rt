@@ -1,12 +1,15 @@
-//! What the ends of children do, over children in memory: a line a case, with what was started, killed and waited for, in
-//! its order. A test in the program itself, since its edge is no library.
+//! What the ends of children do, over children in memory: a line a case, with what was started, killed, waited for and looked
+//! at, in its order. A look that finds a child's end has waited for it. A test in the program itself, since its edge is no
+//! library.
 //!
-//! A child is `OUTPUT/STATUS` or `OUTPUT/STATUS/FLAG`: what it writes (`-` is nothing), its wait status as the system has it
-//! (256 is an exit with 1, 9 an end by that signal), and whether it is `mute` (reading from it fails), `deaf` (writing to it
-//! fails), `stays` (it can't be killed) or is `absent` (it can't be started).
+//! A child is `OUTPUT/STATUS` with flags behind it, as `abc/0/slow`: what it writes (`-` is nothing), its wait status as the
+//! system has it (256 is an exit with 1, 9 an end by that signal), and whether it is `mute` (reading from it fails), `deaf`
+//! (writing to it fails), `slow` (it is silent for two waits), `silent` (for ever), `over` (it has ended when it is looked at),
+//! `lost` (a look fails), `stays` (it can't be killed) or is `absent` (it can't be started).
 
 use crate::piping::pipe_to_end;
 use crate::running::{Errors, Starter, run_to_end};
+use crate::silence::Audible;
 use std::alloc::{AllocError, Allocator, Global};
 use std::cell::{Cell, RefCell};
 use std::io;
@@ -35,6 +38,19 @@ pipe abc/9 -/0/stays => Failed, start 1, start 2, wait 2, kill 1, wait 1
 pipe abc/0 -/0/deaf => Failed, start 1, start 2, kill 1, wait 1, kill 2, wait 2
 pipe abc/0/mute -/0 => Failed, start 1, start 2, kill 1, wait 1, kill 2, wait 2
 pipe abc/0/stays -/0/deaf => Failed, start 1, start 2, kill 1, wait 1, kill 2, wait 2
+# while the sending end is silent the receiving end is looked at; where that has failed both are ended at once
+pipe abc/0/slow -/0 => Done, start 1, start 2, look 1, look 1, wait 2, wait 1
+pipe abc/0/slow -/256 => Failed, start 1, start 2, look 1, look 1, wait 2, wait 1
+pipe abc/0/silent -/256/over => Failed, start 1, start 2, end 1, kill 2, wait 2
+pipe abc/0/silent -/9/over => Failed, start 1, start 2, end 1, kill 2, wait 2
+pipe abc/0/silent/stays -/256/over => Failed, start 1, start 2, end 1, kill 2, wait 2
+# one that has ended well, or that can't be looked at, is no reason to end the sending end
+pipe -/0/slow -/0/over => Done, start 1, start 2, end 1, wait 2
+pipe -/256/slow -/0/over => Failed, start 1, start 2, end 1, wait 2
+pipe abc/0/slow -/0/over/deaf => Failed, start 1, start 2, end 1, kill 2, wait 2
+pipe abc/0/slow -/256/lost => Failed, start 1, start 2, look 1, look 1, wait 2, wait 1
+# nobody looks at a receiving end that has failed while the sending end writes
+pipe abc/0 -/256/over => Failed, start 1, start 2, wait 2, wait 1
 # what was started is waited for where the other end can't be started
 pipe abc/0/absent -/0 => Failed, start 1, kill 1, wait 1
 pipe abc/0 -/0/absent => Failed";
@@ -44,6 +60,16 @@ pipe abc/0 -/0/absent => Failed";
 struct Text {
     left: &'static [u8],
     fails: bool,
+    /// How many waits find nothing.
+    silence: u64,
+}
+
+impl Audible for Text {
+    fn stays_silent(&mut self) -> bool {
+        let was_silent = self.silence > 0;
+        self.silence = self.silence.saturating_sub(1);
+        was_silent
+    }
 }
 
 impl Read for Text {
@@ -116,8 +142,7 @@ impl Log {
 struct Started<'a> {
     log: &'a Log,
     number: u32,
-    raw: i32,
-    stays: bool,
+    script: Script,
 }
 
 impl<'a> OpenProcess for Started<'a> {
@@ -133,12 +158,24 @@ impl<'a> OpenProcess for Started<'a> {
 
     fn wait(&mut self) -> io::Result<ExitStatus> {
         self.log.add("wait", self.number)?;
-        Ok(ExitStatus::from_raw(self.raw))
+        Ok(ExitStatus::from_raw(self.script.raw))
+    }
+
+    fn try_wait(&mut self) -> io::Result<Option<ExitStatus>> {
+        if self.script.is_over {
+            self.log.add("end", self.number)?;
+            return Ok(Some(ExitStatus::from_raw(self.script.raw)));
+        }
+        self.log.add("look", self.number)?;
+        if self.script.is_lost {
+            return Err(io::Error::from(ErrorKind::NotFound));
+        }
+        Ok(None)
     }
 
     fn kill(&mut self) -> io::Result<()> {
         self.log.add("kill", self.number)?;
-        if self.stays {
+        if self.script.stays {
             Err(io::Error::from(ErrorKind::PermissionDenied))
         } else {
             Ok(())
@@ -151,8 +188,11 @@ impl<'a> OpenProcess for Started<'a> {
 struct Script {
     output: &'static [u8],
     raw: i32,
+    silence: u64,
     is_mute: bool,
     is_deaf: bool,
+    is_over: bool,
+    is_lost: bool,
     stays: bool,
     is_absent: bool,
 }
@@ -167,10 +207,19 @@ fn script_of(text: &str) -> Script {
         } else {
             0
         },
-        is_mute: text.ends_with("mute"),
-        is_deaf: text.ends_with("deaf"),
-        stays: text.ends_with("stays"),
-        is_absent: text.ends_with("absent"),
+        silence: if text.contains("/slow") {
+            2
+        } else if text.contains("/silent") {
+            u64::MAX
+        } else {
+            0
+        },
+        is_mute: text.contains("/mute"),
+        is_deaf: text.contains("/deaf"),
+        is_over: text.contains("/over"),
+        is_lost: text.contains("/lost"),
+        stays: text.contains("/stays"),
+        is_absent: text.contains("/absent"),
     }
 }
 
@@ -200,8 +249,7 @@ impl<'a> Processes for Scripted<'a> {
         let process = Started {
             log: self.log,
             number,
-            raw: script.raw,
-            stays: script.stays,
+            script,
         };
         let stdin = Ear {
             fails: script.is_deaf,
@@ -209,6 +257,7 @@ impl<'a> Processes for Scripted<'a> {
         let stdout = Text {
             left: script.output,
             fails: script.is_mute,
+            silence: script.silence,
         };
         Ok(Child::from_parts(process, Some(stdin), Some(stdout), None))
     }

@@ -149,11 +149,11 @@ fn calls_that_fail(rt: HostRuntime) {
     }
 }
 
-/// The status where a put of the output fails.
+/// The status where a put of the output fails. The line is put at once, with its newline.
 const PUTS: &str = "\
 a_failing_output_is_status_8
   1 => status 8
-  2 => status 8";
+  2 => status 0";
 
 /// The pools before a call whose output is cut.
 const THREE: &str = "now 1000 txg 100 guid 100;tank @a:11:11:100 @b:12:12:200 @c:13:13:300;";

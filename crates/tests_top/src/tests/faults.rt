@@ -9,7 +9,7 @@ use zr_base::NoMemory;
 use zr_exec::{LISTING_LIMIT, PipeExit, RunExit, Spawn};
 use zr_names::Unit;
 
-/// Whether the first children end well and what they write, `~` for a tab and `$` for the end of a line, or a listing by its
+/// How the first children end and what they write, `~` for a tab and `$` for the end of a line, or a listing by its
 /// name; the status and what is printed.
 const BLOCKS: &str = "\
 faults_and_garbled_listings_end_their_unit: the first child fails, with a good listing or a bad one
@@ -26,6 +26,10 @@ faults_and_garbled_listings_end_their_unit: the second child fails
 faults_and_garbled_listings_end_their_unit: the listing of the versions is garbled: a column too few, and a last line that was cut
   ends tank~-~-$, then ends tank@a~1~1~1$ => status 6 due=2 done=2 coalesced=0 taken=0 fresh=0 steps=0 uptodate=0 conflicts=0 destroyed=0 busy=0 placeholders=0 toolong=0 faults=0 garbled=1 nomemory=0
   ends tank~-~-$, then ends tank@a~1~1~1~0$tank@b~2~2~2~0 => status 6 due=2 done=2 coalesced=0 taken=0 fresh=0 steps=0 uptodate=0 conflicts=0 destroyed=0 busy=0 placeholders=0 toolong=0 faults=0 garbled=1 nomemory=0
+
+a_child_without_memory_ends_its_unit: the first child, and the second one
+  wants , then ends tank~-~-$ => status 9 due=1 done=1 coalesced=0 taken=0 fresh=0 steps=0 uptodate=0 conflicts=0 destroyed=0 busy=0 placeholders=0 toolong=0 faults=0 garbled=0 nomemory=1
+  ends tank~-~-$, then wants  => status 9 due=2 done=2 coalesced=0 taken=0 fresh=0 steps=0 uptodate=0 conflicts=0 destroyed=0 busy=0 placeholders=0 toolong=0 faults=0 garbled=0 nomemory=1
 
 a_replication_lists_both_sides: nothing is left to do
   push: ends sets, then ends sets, then ends source, then ends target, then ends source holds, then ends target holds => status 0 due=2 done=2 coalesced=0 taken=0 fresh=0 steps=0 uptodate=1 conflicts=0 destroyed=0 busy=0 placeholders=0 toolong=0 faults=0 garbled=0 nomemory=0
@@ -61,8 +65,8 @@ fn listing(spelled: &str) -> &str {
     }
 }
 
-/// A runner whose children write what they are told to, one after the other, and end well or not. After the last of them each
-/// child fails.
+/// A runner whose children write what they are told to, one after the other, and end so. After the last of them each child
+/// fails.
 #[derive(Drop)]
 struct Scripted {
     script: Vec<Says>,
@@ -70,19 +74,28 @@ struct Scripted {
     faults: u64,
 }
 
-/// What a child writes, and whether it ends well.
+/// How a child ends.
+#[derive(Clone, Copy)]
+enum End {
+    Well,
+    Badly,
+    /// Memory is wanting.
+    Short,
+}
+
+/// What a child writes, and how it ends.
 #[derive(Drop)]
 struct Says {
-    ends_well: bool,
+    end: End,
     text: String,
 }
 
 impl Scripted {
-    /// Whether the next child ends well, and what it writes.
-    fn next(&self) -> (bool, &[u8]) {
+    /// How the next child ends, and what it writes.
+    fn next(&self) -> (End, &[u8]) {
         match self.script.as_slice().get(self.calls) {
-            Some(says) => (says.ends_well, says.text.as_bytes()),
-            None => (false, &[]),
+            Some(says) => (says.end, says.text.as_bytes()),
+            None => (End::Badly, &[]),
         }
     }
 }
@@ -102,16 +115,19 @@ impl Spawn for Scripted {
 
     fn run(&mut self, _argv: &[String], out: &mut Vec<u8>) -> RunExit {
         out.clear();
-        let (ends_well, text) = self.next();
+        let (end, text) = self.next();
         if text.len() > LISTING_LIMIT || out.extend_from_slice(text).is_err() {
             return RunExit::NoMemory;
         }
         self.calls = self.calls.saturating_add(1);
-        if ends_well {
-            return RunExit::Done;
+        match end {
+            End::Well => RunExit::Done,
+            End::Badly => {
+                self.faults = self.faults.saturating_add(1);
+                RunExit::Nonzero
+            }
+            End::Short => RunExit::NoMemory,
         }
-        self.faults = self.faults.saturating_add(1);
-        RunExit::Nonzero
     }
 
     fn pipe(&mut self, _send: &[String], _receive: &[String]) -> PipeExit {
@@ -132,8 +148,12 @@ fn says_of(alloc: Global, words: &str) -> Option<Says> {
         };
         text.push(letter).ok()?;
     }
-    let ends_well = end == "ends";
-    Some(Says { ends_well, text })
+    let end = match end {
+        "ends" => End::Well,
+        "wants" => End::Short,
+        _ => End::Badly,
+    };
+    Some(Says { end, text })
 }
 
 fn script_of(alloc: Global, ask: &str) -> Option<Vec<Scripted>> {

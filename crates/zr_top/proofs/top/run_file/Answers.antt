@@ -13,4 +13,4 @@ returns-in-Ok-clause-ran g c = λ file.
 
 pub returns-in-Err-clause-ran : goal.returns-in-Err-clause-ran
 returns-in-Err-clause-ran g c = λ file.
-    inl (no-jobs-unrun file _ _ _ c.in-Err.fault refl c.refuse.ensures.unrun c.refuse.ensures.front c.refuse.ensures.silent)
+    inl (no-jobs-unrun file _ _ _ c.in-Err.fault refl c.refuse.ensures.unrun c.refuse.ensures.front c.refuse.ensures.whole c.refuse.ensures.silent)

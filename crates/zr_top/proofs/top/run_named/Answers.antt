@@ -37,7 +37,7 @@ returns-in-Ok-clause-ran g c =
     ran-file _ _ _ _ _ _ _ _ c.as_slice.ensures.value c.in-Ok.ensures.bytes (c.run_file.ensures.ran _)
 
 pub returns-in-Err-Failed-clause-ran : goal.returns-in-Err-Failed-clause-ran
-returns-in-Err-Failed-clause-ran g c = inl (unread-unrun _ _ _ _ refl c.unreadable.ensures.printed c.unreadable.ensures.front)
+returns-in-Err-Failed-clause-ran g c = inl (unread-unrun _ _ _ _ refl c.unreadable.ensures.printed c.unreadable.ensures.front c.unreadable.ensures.whole)
 
 pub returns-clause-ran : goal.returns-clause-ran
 returns-clause-ran g c = inl (idle-short c.args.file.now _ _ refl refl)

@@ -40,6 +40,7 @@ returns-in-Some-clause-kept g c =
           }));
       usage_printed = λ two. absurd (run.no_usage (usage-code _ (sym c.code.ensures ∙ two)));
       usage_front = λ none. absurd (no-command _ _ none (sym c.in-Some.ensures));
+      usage_whole = λ none. absurd (no-command _ _ none (sym c.in-Some.ensures));
       refusal_printed = λ three file whole finds.
           run.refusal_printed (job_file-code c.run_named.result (sym c.code.ensures ∙ three)) whole
           (ap content (same-file _ _ file c.in-Some.ensures finds.named) ∙ finds.there);
@@ -70,6 +71,7 @@ returns-in-None-clause-kept g c =
       complete = λ file whole jobs finds reads sound. absurd (no-command _ file none finds.named);
       usage_printed = λ two. c.print.ensures.wrote (ap is_silent (usage-code c.print.result (sym c.code-in-None.ensures ∙ two)));
       usage_front = λ no_file. c.print.ensures.front;
+      usage_whole = λ no_file. c.print.ensures.whole;
       refusal_printed = λ three file whole finds. absurd (no-command _ file none finds.named);
       unread_printed = λ seven file named. absurd (no-command _ file none named);
       unreadable = λ seven. absurd (caused.1 (sym c.code-in-None.ensures ∙ seven));
