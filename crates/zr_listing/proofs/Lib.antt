@@ -1,6 +1,7 @@
 pub mod Cutting
 pub mod Numbers
 pub mod Rows
+pub mod Rising
 pub mod Reading
 pub mod Exact
 pub mod Sorting

@@ -1,5 +1,7 @@
 pub mod Columns
 pub mod Lines
+pub mod Names
+pub mod Met
 pub mod Reading
 pub mod Steps
 pub mod Listing

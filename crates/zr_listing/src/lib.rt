@@ -12,6 +12,7 @@ mod columns;
 pub mod faults;
 pub mod holds;
 mod lines;
+mod names;
 pub mod print;
 pub mod sets;
 pub mod versions;

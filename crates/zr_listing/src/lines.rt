@@ -6,8 +6,8 @@ ghost use Rattle.zr_listing.specs.Reading.{Finds};
 
 use crate::columns::cut;
 use crate::faults::{LineFault, ListFault};
+use crate::names::Names;
 use std::alloc::Global;
-use std::collections::BTreeSet;
 
 /// One kind of listing.
 pub(crate) trait Kind {
@@ -67,7 +67,7 @@ pub(crate) fn read_lines<K: Kind>(
     ensures garbled { IfErr result (IsBadAt (K.spells kind.now) (K.name kind.now) bytes.now) }
 {
     let mut rows = Vec::new(alloc);
-    let mut names = BTreeSet::new(alloc);
+    let mut names = Names::new(alloc);
     let mut rest = bytes;
     while !rest.is_empty() {
         let number = rows.len() as u64 + 1;
