@@ -15,7 +15,7 @@ use Rattle.zr_command.specs.declared.version.VersionName.TheVariants.{Snap, Mark
 use Rattle.zr_command.specs.declared.version.VersionRow.{VersionRow}
 use Rattle.zr_jobs.specs.declared.job.JobSet.{JobSet}
 use Rattle.zr_jobs.specs.declared.job.RuleSpec.{RuleSpec}
-use Rattle.zr_permit.specs.Honest.{IsHonest, MayGo, WasListed}
+use Rattle.zr_permit.specs.Honest.{IsHonest, MayGo, rules_by, WasListed}
 use Rattle.zr_jobs.specs.Jobs.{job_at, pair_of, rules_of}
 use Rattle.zr_jobs.specs.declared.pair.Pair.{Pair}
 use Rattle.zr_permit.specs.Keep.{doomed, going, going_from, retained}
@@ -121,7 +121,7 @@ no-destroy None past path name replicates = replicates
 no-destroy (Some pair) past path name replicates = replicates
 
 -- a destroy is permitted by a listing alone
-permits-listed : (jobs : JobSet) (number : ℕ) (unit_work : Work) (past : Transcript) (path name : List ℕ) → Permits jobs number unit_work past (cmd.DestroySnap path name) → WasListed (rules_of (job_at jobs number)) past path name
+permits-listed : (jobs : JobSet) (number : ℕ) (unit_work : Work) (past : Transcript) (path name : List ℕ) → Permits jobs number unit_work past (cmd.DestroySnap path name) → WasListed (rules_by (job_at jobs number) unit_work) past path name
 permits-listed jobs number (work.PruneSource own) past path name permits = choose (listed own past) refl permits.1 where
   choose : (told : Option (List VersionRow)) → listed own past ≡ told → Contains (doomed_in jobs number told) name → WasListed (rules_of (job_at jobs number)) past path name
   choose None none within = absurd (no-element name within)

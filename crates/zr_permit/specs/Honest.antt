@@ -1,11 +1,14 @@
-use Rattle.std.specs.Prelude.{◌≡◌, ◌<◌, ℕ, false, List, ◌∷◌, ◌++◌, Contains, length}
+use Rattle.std.specs.Prelude.{◌≡◌, ◌<◌, ℕ, false, List, [], ◌∷◌, ◌++◌, Contains, Option, length}
 use Rattle.zr_names.specs.declared.unit.Unit.{Unit}
+use Rattle.zr_names.specs.declared.unit.Work.{Work}
+use Rattle.zr_names.specs.declared.unit.Work.TheVariants as work
 use Rattle.zr_command.specs.declared.command.Answer.{Answer}
 use Rattle.zr_command.specs.declared.command.Answer.TheVariants as answer
 use Rattle.zr_command.specs.declared.command.Cmd.TheVariants as cmd
 use Rattle.zr_command.specs.declared.command.Reply.TheVariants as reply
 use Rattle.zr_command.specs.declared.version.VersionName.TheVariants.{Snap}
 use Rattle.zr_command.specs.declared.version.VersionRow.{VersionRow}
+use Rattle.zr_jobs.specs.declared.job.Job.{Job}
 use Rattle.zr_jobs.specs.declared.job.JobSet.{JobSet}
 use Rattle.zr_jobs.specs.declared.job.RuleSpec.{RuleSpec}
 use Rattle.zr_jobs.specs.Jobs.{job_at, rules_of}
@@ -30,10 +33,16 @@ pub record WasListed (rules : List RuleSpec) (past : Transcript) (path name : Li
   pub told : Contains past (cmd.Versions path, answer.Done (reply.Versions rows))
   pub may_go : MayGo rules rows name
 
+-- the rules by which a unit may destroy snapshots, those of its side: a job has rules for its source, and a unit that prunes
+-- something else, or nothing, has none
+abbrev pub rules_by : Option Job → Work → List RuleSpec
+rules_by job (work.PruneSource path) = rules_of job
+rules_by job other = []
+
 -- honest destruction: each snapshot that a unit gave for destruction stood in a listing of its dataset that
--- the unit had taken before, with no holds and kept by no rule of the job
+-- the unit had taken before, with no holds and kept by no rule of the unit's side
 abbrev pub IsHonest : JobSet → Unit → Transcript → Type 0
 IsHonest jobs unit turns =
     (past later : Transcript) (path name : List ℕ) (given : Answer) →
     turns ≡ past ++ (cmd.DestroySnap path name, given) ∷ later →
-    WasListed (rules_of (job_at jobs unit.job)) past path name
+    WasListed (rules_by (job_at jobs unit.job) unit.work) past path name
