@@ -5,7 +5,7 @@ use std::alloc::Global;
 use std::str::Split;
 use zr_command::{Base, Cmd, Transfer, VersionName};
 use zr_names::{Guid, TagKind};
-use zr_world::{Extent, Planned};
+use zr_world::{Extent, PlannedFailure};
 
 /// `@` and a snapshot's name or `#` and a bookmark's.
 pub fn name_of(alloc: Global, text: &str) -> Option<VersionName> {
@@ -127,14 +127,14 @@ pub fn extent_of(call: &str) -> (Option<Extent>, &str) {
 }
 
 /// The calls of a block that are to fail. Its calls are the lines that begin with two blanks.
-pub fn failing_of(alloc: Global, block: &str) -> Option<Vec<Planned>> {
+pub fn failing_of(alloc: Global, block: &str) -> Option<Vec<PlannedFailure>> {
     let mut failing = Vec::new(alloc);
     let mut call = 0_u64;
     for line in block.lines() {
         if let Some(asked) = line.strip_prefix("  ") {
             call = call.saturating_add(1);
             if let (Some(extent), _) = extent_of(asked) {
-                failing.push(Planned { call, extent }).ok()?;
+                failing.push(PlannedFailure { call, extent }).ok()?;
             }
         }
     }

@@ -17,7 +17,7 @@ use zr_model::{MemSpawn, is_well_formed};
 use zr_names::Moment;
 use zr_pipe::MemSink;
 use zr_top::{Clock, MemClock, MemFiles, StoredFile, zrepl};
-use zr_world::Planned;
+use zr_world::PlannedFailure;
 
 /// A job that keeps the newest two snapshots of each dataset of `tank`.
 const SNAP: &str = r#"
@@ -114,7 +114,7 @@ fn children_of<R: Abort>(
     rt: &R,
     alloc: Global,
     before: &str,
-    failing: Vec<Planned>,
+    failing: Vec<PlannedFailure>,
 ) -> Option<Vec<MemSpawn>> {
     let pools = pools_of(alloc, before)?;
     assert!(rt; is_well_formed(&pools));

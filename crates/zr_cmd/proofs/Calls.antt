@@ -10,8 +10,8 @@ use Rattle.zr_cmd.specs.Forms.{is_sign, read_as}
 use Rattle.zr_cmd.specs.Words.{IsNamed, IsUnknown, Reads, Spells, sets_words, versions_words, words_of}
 use Rattle.zr_cmd.specs.declared.argv.ArgvFault.{ArgvFault}
 use Rattle.zr_cmd.specs.declared.argv.ArgvFault.TheVariants.{UnknownCommand, BadWord, NoMemory}
-use Rattle.zr_cmd.specs.declared.forms.Call.{Call}
-use Rattle.zr_cmd.specs.declared.forms.Call.TheVariants as call
+use Rattle.zr_cmd.specs.declared.forms.ZfsCall.{ZfsCall}
+use Rattle.zr_cmd.specs.declared.forms.ZfsCall.TheVariants as call
 use Rattle.zr_cmd.proofs.Cut.{set-of, name-of, kind-of, after-front}
 use Rattle.zr_cmd.proofs.Spelling.{form_of}
 use Rattle.zr_cmd.proofs.Texts.{ArePlain, name-plain, path-plain}
@@ -41,7 +41,7 @@ mark-no-at [] name p n = no-at name n
 mark-no-at (b ∷ path) name p n = rw (no-sign b p.0.1) (mark-no-at path name p.1 n)
 
 -- the words of a call have its form
-form-found : (c : Call) → IsNamed c → form_for (words_of c) ≡ form_of c
+form-found : (c : ZfsCall) → IsNamed c → form_for (words_of c) ≡ form_of c
 unfolding sets_words versions_words
 form-found (call.One cmd.Sets) n = refl
 form-found (call.One (cmd.Versions path)) n = refl
@@ -59,7 +59,7 @@ form-found (call.Receive path false) n = refl
 form-found (call.Receive path true) n = refl
 
 -- the names in the words of a call are its own
-names-found : (c : Call) → IsNamed c → read_as (form_of c) (words_of c) ≡ c
+names-found : (c : ZfsCall) → IsNamed c → read_as (form_of c) (words_of c) ≡ c
 unfolding versions_words
 names-found (call.One cmd.Sets) n = refl
 names-found (call.One (cmd.Versions path)) n = refl
@@ -99,30 +99,30 @@ words-once (x ∷ xs) (y ∷ ys) e =
     let rest = words-once xs ys both.1 in
     cc
 
-chosen : (test : Bool) (c : Call) → test ≡ true → cond test (Some c) None ≡ Some c
+chosen : (test : Bool) (c : ZfsCall) → test ≡ true → cond test (Some c) None ≡ Some c
 chosen test c e = rw e refl
 
 -- the words of a call are found to be its
-pub found : (c : Call) → IsNamed c → call_of (words_of c) ≡ Some c
+pub found : (c : ZfsCall) → IsNamed c → call_of (words_of c) ≡ Some c
 unfolding call_of
 found c n =
     let words = words_of c in
     let is : read_as (form_for words) words ≡ c = ap (λ f. read_as f words) (form-found c n) ∙ names-found c n in
-    subst (λ (x : Call). cond (has_words words x) (Some x) None ≡ Some c) (sym is) (chosen (has_words words c) c (same-words words))
+    subst (λ (x : ZfsCall). cond (has_words words x) (Some x) None ≡ Some c) (sym is) (chosen (has_words words c) c (same-words words))
 
-choice : (test : Bool) (c d : Call) → cond test (Some c) None ≡ Some d → (test ≡ true) × (c ≡ d)
+choice : (test : Bool) (c d : ZfsCall) → cond test (Some c) None ≡ Some d → (test ≡ true) × (c ≡ d)
 choice true c d e = (refl, cc)
 choice false c d e = cc
 
 -- what is found has these words
-pub found-spelled : (words : List (List ℕ)) (c : Call) → call_of words ≡ Some c → words_of c ≡ words
+pub found-spelled : (words : List (List ℕ)) (c : ZfsCall) → call_of words ≡ Some c → words_of c ≡ words
 unfolding call_of
 found-spelled words c e =
     let guess = read_as (form_for words) words in
     let one = choice (has_words words guess) guess c e in
     sym (words-once words (words_of guess) one.0 ∙ ap words_of one.1)
 
-pub one-call : (a b : Call) → IsNamed a → IsNamed b → words_of a ≡ words_of b → a ≡ b
+pub one-call : (a b : ZfsCall) → IsNamed a → IsNamed b → words_of a ≡ words_of b → a ≡ b
 one-call a b p q e =
     let one = found a p in
     let other = found b q in
@@ -130,7 +130,7 @@ one-call a b p q e =
     cc
 
 -- a call has words
-some-words : (c : Call) → IsNamed c → [] ≡ words_of c → ⊥
+some-words : (c : ZfsCall) → IsNamed c → [] ≡ words_of c → ⊥
 unfolding sets_words versions_words
 some-words (call.One cmd.Sets) n e = cc
 some-words (call.One (cmd.Versions path)) n e = cc
@@ -145,11 +145,11 @@ some-words (call.SendFull path name) n e = cc
 some-words (call.SendFrom path mark name) n e = cc
 some-words (call.Receive path force) n e = cc
 
-spelled-known : (words : List (List ℕ)) (c : Call) → Spells words c → IsUnknown words → ⊥
+spelled-known : (words : List (List ℕ)) (c : ZfsCall) → Spells words c → IsUnknown words → ⊥
 spelled-known [] c is u = some-words c is.named is.same
 spelled-known (w ∷ ws) c is u = u (record { given = c; more = ws; named = is.named; longer = sym is.same })
 
-pub read-back : (words : List (List ℕ)) (c : Call) (result : Result Call ArgvFault) → Reads words result → Spells words c → (result ≡ Ok c) ⊎ (result ≡ Err NoMemory)
+pub read-back : (words : List (List ℕ)) (c : ZfsCall) (result : Result ZfsCall ArgvFault) → Reads words result → Spells words c → (result ≡ Ok c) ⊎ (result ≡ Err NoMemory)
 read-back words c (Ok given) reads is = inl (ap Ok (one-call given c reads.named is.named (sym reads.same ∙ is.same)))
 read-back words c (Err UnknownCommand) reads is = absurd (spelled-known words c is reads)
 read-back words c (Err (BadWord n)) reads is = absurd (reads.1 c is)

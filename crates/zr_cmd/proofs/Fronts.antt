@@ -4,8 +4,8 @@ use Rattle.std.proofs.lemmas.List.{get_or-take, length-take-le}
 use Rattle.zr_names.specs.Marks.{tag_text}
 use Rattle.zr_names.specs.Names.{path_is_bad, name_is_bad}
 use Rattle.zr_names.specs.declared.marks.TagKind.TheVariants.{Step}
-use Rattle.zr_cmd.specs.Forms.{Fits, Pattern, fixed, a_path, a_snap, a_mark, same_snap, same_mark, a_tag, set_part}
-use Rattle.zr_cmd.specs.Steps.{FitsAt}
+use Rattle.zr_cmd.specs.Forms.{Suits, Pattern, fixed, a_path, a_snap, a_mark, same_snap, same_mark, a_tag, set_part}
+use Rattle.zr_cmd.specs.Steps.{SuitsAt}
 use Rattle.zr_cmd.specs.Words.{IsJob, IsPath, IsVersion}
 use Rattle.zr_cmd.proofs.Cut.{full, job-tag, set-of}
 
@@ -13,21 +13,21 @@ use Rattle.zr_cmd.proofs.Cut.{full, job-tag, set-of}
 abbrev pub Along : List Pattern → List ℕ → List (List ℕ) → Type 0
 Along patterns before [] = ⊤
 Along [] before (word ∷ words) = ⊥
-Along (p ∷ patterns) before (word ∷ words) = Fits p before word × Along patterns word words
+Along (p ∷ patterns) before (word ∷ words) = Suits p before word × Along patterns word words
 
 -- so many words at the front are as the patterns have them
 pub record Front (patterns : List Pattern) (words : List (List ℕ)) (count : ℕ) : Type 0 where
   pub in_words : count ≤ length words
   pub in_patterns : count ≤ length patterns
-  pub fits : (place : ℕ) → place < count → FitsAt patterns words place
+  pub fits : (place : ℕ) → place < count → SuitsAt patterns words place
 
-pub along-at : (ps : List Pattern) (b : List ℕ) (ws : List (List ℕ)) (i : ℕ) → Along ps b ws → i < length ws → Fits (get_or ps i a_path) (get_or (b ∷ ws) i []) (get_or ws i [])
+pub along-at : (ps : List Pattern) (b : List ℕ) (ws : List (List ℕ)) (i : ℕ) → Along ps b ws → i < length ws → Suits (get_or ps i a_path) (get_or (b ∷ ws) i []) (get_or ws i [])
 along-at ps b [] i a inside = absurd (omega arith)
 along-at [] b (w ∷ ws) i a inside = absurd a
 along-at (p ∷ ps) b (w ∷ ws) zero a inside = a.0
 along-at (p ∷ ps) b (w ∷ ws) (suc i) a inside = along-at ps w ws i a.1 (omega arith)
 
-pub at-along : (ps : List Pattern) (b : List ℕ) (ws : List (List ℕ)) → length ws ≤ length ps → ((i : ℕ) → i < length ws → Fits (get_or ps i a_path) (get_or (b ∷ ws) i []) (get_or ws i [])) → Along ps b ws
+pub at-along : (ps : List Pattern) (b : List ℕ) (ws : List (List ℕ)) → length ws ≤ length ps → ((i : ℕ) → i < length ws → Suits (get_or ps i a_path) (get_or (b ∷ ws) i []) (get_or ws i [])) → Along ps b ws
 at-along ps b [] short h = tt
 at-along [] b (w ∷ ws) short h = absurd (omega arith)
 at-along (p ∷ ps) b (w ∷ ws) short h = (h 0 (omega arith), at-along ps w ws (omega arith) (λ i inside. h (suc i) (omega arith)))
@@ -37,8 +37,8 @@ along-short ps b [] a = omega arith
 along-short [] b (w ∷ ws) a = absurd a
 along-short (p ∷ ps) b (w ∷ ws) a = let rest = along-short ps w ws a.1 in omega arith
 
-moved : (p : Pattern) (a b v w : List ℕ) → a ≡ b → v ≡ w → Fits p a v → Fits p b w
-moved p a b v w e h f = subst (λ (x : List ℕ). Fits p x w) e (subst (λ (y : List ℕ). Fits p a y) h f)
+moved : (p : Pattern) (a b v w : List ℕ) → a ≡ b → v ≡ w → Suits p a v → Suits p b w
+moved p a b v w e h f = subst (λ (x : List ℕ). Suits p x w) e (subst (λ (y : List ℕ). Suits p a y) h f)
 
 -- the word before a place after the first
 pub back : (ws : List (List ℕ)) (i : ℕ) → get_or ws (suc i - 1) [] ≡ get_or ws i []
@@ -105,7 +105,7 @@ abbrev pub is_chain : Bool → List Pattern → Bool
 is_chain named [] = true
 is_chain named (p ∷ ps) = may_follow named p && is_chain (names_set p) ps
 
-named-set : (p : Pattern) (before word : List ℕ) → names_set p ≡ true → Fits p before word → IsPath (set_part word)
+named-set : (p : Pattern) (before word : List ℕ) → names_set p ≡ true → Suits p before word → IsPath (set_part word)
 named-set (fixed text) before word e f = cc
 named-set a_path before word e f = cc
 named-set a_snap before word e f = f.is_path
@@ -133,7 +133,7 @@ job-a : IsJob (97 ∷ [])
 job-a = record { not_empty = omega arith; not_long = omega arith; no_place_bad = first-name }
 
 -- some word is as the pattern has it
-fillable : (p prev : Pattern) (before word : List ℕ) → may_follow (names_set prev) p ≡ true → Fits prev before word → (w : List ℕ) × Fits p word w
+fillable : (p prev : Pattern) (before word : List ℕ) → may_follow (names_set prev) p ≡ true → Suits prev before word → (w : List ℕ) × Suits p word w
 fillable (fixed text) prev before word e f = (text, refl)
 fillable a_path prev before word e f = (97 ∷ [], path-a)
 fillable a_snap prev before word e f = (97 ∷ 64 ∷ 97 ∷ [], full (97 ∷ []) (97 ∷ []) 64 refl path-a name-a)
@@ -157,7 +157,7 @@ pub record Ending (ps : List Pattern) (b : List ℕ) (ws : List (List ℕ)) : Ty
   pub count : length (ws ++ more) ≡ length ps
 
 -- a front can be gone on with to the end of the patterns
-pub ending : (ps : List Pattern) (prev : Pattern) (before b : List ℕ) (ws : List (List ℕ)) → is_chain (names_set prev) ps ≡ true → Fits prev before b → Along ps b ws → Ending ps b ws
+pub ending : (ps : List Pattern) (prev : Pattern) (before b : List ℕ) (ws : List (List ℕ)) → is_chain (names_set prev) ps ≡ true → Suits prev before b → Along ps b ws → Ending ps b ws
 ending [] prev before b [] e f a = record { more = []; along = tt; count = refl }
 ending [] prev before b (w ∷ ws) e f a = absurd a
 ending (p ∷ ps) prev before b [] e f a =

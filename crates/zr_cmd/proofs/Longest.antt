@@ -4,7 +4,7 @@ use Rattle.zr_cmd.specs.Forms.{fixed, Pattern, patterns_of, read_as}
 use Rattle.zr_cmd.specs.Steps.{IsFront}
 use Rattle.zr_cmd.specs.Words.{Begins, IsUnknown, Reads, Spells, words_of}
 use Rattle.zr_cmd.specs.declared.argv.ArgvFault.TheVariants.{BadWord}
-use Rattle.zr_cmd.specs.declared.forms.Call.{Call}
+use Rattle.zr_cmd.specs.declared.forms.ZfsCall.{ZfsCall}
 use Rattle.zr_cmd.specs.declared.forms.Form.{Form}
 use Rattle.zr_cmd.specs.declared.forms.Form.TheVariants as form
 use Rattle.zr_cmd.proofs.Fronts.{Along, Front, front-along, along-front, ending}
@@ -42,7 +42,7 @@ pub whole-spelled : (f : Form) (words : List (List ℕ)) → IsWhole f words →
 whole-spelled f words w =
     spelled f (get_or words 0 []) words (subst (λ (l : List (List ℕ)). Along (patterns_of f) (get_or words 0 []) l) (take_all (length words) words (omega arith)) (front-along (patterns_of f) words (length words) w.front)) w.all
 
-spelled-whole : (words : List (List ℕ)) (c : Call) → Spells words c → IsWhole (form_of c) words
+spelled-whole : (words : List (List ℕ)) (c : ZfsCall) → Spells words c → IsWhole (form_of c) words
 spelled-whole words c is =
     let b0 = get_or words 0 [] in
     let along : Along (patterns_of (form_of c)) b0 (words_of c) = written c b0 is.named in

@@ -2,17 +2,17 @@ use Rattle.std.proofs.Common.{◌≡◌, ℕ, zero, suc, ◌+◌, true, false, L
 use Rattle.std.proofs.lemmas.List.{length-map}
 use Rattle.zr_command.specs.declared.command.Cmd.TheVariants as cmd
 use Rattle.zr_command.specs.declared.version.VersionName.TheVariants as version
-use Rattle.zr_cmd.specs.Forms.{Fits, IsFull, Pattern, fixed, a_path, patterns_of, name_part, read_as, set_part}
+use Rattle.zr_cmd.specs.Forms.{Suits, IsFull, Pattern, fixed, a_path, patterns_of, name_part, read_as, set_part}
 use Rattle.zr_cmd.specs.Words.{IsNamed, IsPath, Spells, sets_words, versions_words, words_of}
-use Rattle.zr_cmd.specs.declared.forms.Call.{Call}
-use Rattle.zr_cmd.specs.declared.forms.Call.TheVariants as call
+use Rattle.zr_cmd.specs.declared.forms.ZfsCall.{ZfsCall}
+use Rattle.zr_cmd.specs.declared.forms.ZfsCall.TheVariants as call
 use Rattle.zr_cmd.specs.declared.forms.Form.{Form}
 use Rattle.zr_cmd.specs.declared.forms.Form.TheVariants as form
 use Rattle.zr_cmd.proofs.Cut.{full, job-tag, set-of}
 use Rattle.zr_cmd.proofs.Fronts.{Along, is_chain}
 
 -- the form of a call
-abbrev pub form_of : Call → Form
+abbrev pub form_of : ZfsCall → Form
 form_of (call.One cmd.Sets) = form.Sets
 form_of (call.One (cmd.Versions path)) = form.Versions
 form_of (call.One (cmd.Holds path name)) = form.Holds
@@ -49,12 +49,12 @@ along-fixed : (ts : List (List ℕ)) (b : List ℕ) → Along (map fixed ts) b t
 along-fixed [] b = tt
 along-fixed (t ∷ ts) b = (refl, along-fixed ts t)
 
-along-then : (ts : List (List ℕ)) (p : Pattern) (b w : List ℕ) → ((c : List ℕ) → Fits p c w) → Along (map fixed ts ++ p ∷ []) b (ts ++ w ∷ [])
+along-then : (ts : List (List ℕ)) (p : Pattern) (b w : List ℕ) → ((c : List ℕ) → Suits p c w) → Along (map fixed ts ++ p ∷ []) b (ts ++ w ∷ [])
 along-then [] p b w f = (f b, tt)
 along-then (t ∷ ts) p b w f = (refl, along-then ts p t w f)
 
 -- the words of a call are as its form has them
-pub written : (c : Call) (b : List ℕ) → IsNamed c → Along (patterns_of (form_of c)) b (words_of c)
+pub written : (c : ZfsCall) (b : List ℕ) → IsNamed c → Along (patterns_of (form_of c)) b (words_of c)
 written (call.One cmd.Sets) b n = along-fixed sets_words b
 written (call.One (cmd.Versions path)) b n = along-then versions_words a_path b path (λ c. n)
 written (call.One (cmd.Holds path name)) b n = (refl, (refl, (full path name 64 refl n.0 n.1, tt)))
@@ -78,7 +78,7 @@ length-then [] p w = refl
 length-then (t ∷ ts) p w = ap suc (length-then ts p w)
 
 -- a call has as many words as its form
-pub all-written : (c : Call) → IsNamed c → length (words_of c) ≡ length (patterns_of (form_of c))
+pub all-written : (c : ZfsCall) → IsNamed c → length (words_of c) ≡ length (patterns_of (form_of c))
 all-written (call.One cmd.Sets) n = sym (length-map sets_words fixed)
 all-written (call.One (cmd.Versions path)) n = length-then versions_words a_path path
 all-written (call.One (cmd.Holds path name)) n = refl
@@ -120,7 +120,7 @@ pub record Then (ts : List (List ℕ)) (p : Pattern) (ws : List (List ℕ)) : Ty
   pub before : List ℕ
   pub same : ws ≡ ts ++ last ∷ []
   pub at : get_or ws (length ts) [] ≡ last
-  pub fits : Fits p before last
+  pub fits : Suits p before last
 
 fixed-then : (ts : List (List ℕ)) (p : Pattern) (b : List ℕ) (ws : List (List ℕ)) → Along (map fixed ts ++ p ∷ []) b ws → length ws ≡ length ts + 1 → Then ts p ws
 fixed-then [] p b [] a e = absurd (omega arith)

@@ -13,7 +13,7 @@ use Rattle.zr_command.specs.declared.command.Cmd.{Cmd}
 use Rattle.zr_command.specs.declared.command.Cmd.TheVariants as cmd
 use Rattle.zr_cmd.specs.Words.{AreNamed, IsJob, IsNamed, IsPath, argv_words, words_of}
 use Rattle.zr_cmd.specs.declared.argv.Argv.TheVariants as argv
-use Rattle.zr_cmd.specs.declared.forms.Call.TheVariants as call
+use Rattle.zr_cmd.specs.declared.forms.ZfsCall.TheVariants as call
 
 -- the bytes of names and paths: ASCII, and no sign
 abbrev pub ArePlain : List ℕ → Type 0

@@ -4,7 +4,7 @@ use Rattle.std.specs.Cmp.Lexicographic.{pointwise}
 use Rattle.std.specs.Str.{bytes_eq}
 use Rattle.zr_cmd.specs.Forms.{read_as, word_at}
 use Rattle.zr_cmd.specs.Words.{words_of}
-use Rattle.zr_cmd.specs.declared.forms.Call.{Call}
+use Rattle.zr_cmd.specs.declared.forms.ZfsCall.{ZfsCall}
 use Rattle.zr_cmd.specs.declared.forms.Form.{Form}
 use Rattle.zr_cmd.specs.declared.forms.Form.TheVariants as form
 
@@ -25,10 +25,10 @@ form_for words =
     else (if length words == 4 then form.Receive else form.ReceiveForced)))))))
 
 -- the words are those of the call
-abbrev pub has_words : List (List ℕ) → Call → Bool
+abbrev pub has_words : List (List ℕ) → ZfsCall → Bool
 has_words words given = pointwise (pointwise nat_eq) words (words_of given)
 
 -- the call whose words these are
-unfoldable pub call_of : List (List ℕ) → Option Call
+unfoldable pub call_of : List (List ℕ) → Option ZfsCall
 call_of words =
     if has_words words (read_as (form_for words) words) then Some (read_as (form_for words) words) else None

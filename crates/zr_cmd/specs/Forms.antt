@@ -6,8 +6,8 @@ use Rattle.zr_names.specs.declared.marks.TagKind.TheVariants.{Step, Last}
 use Rattle.zr_command.specs.declared.command.Cmd.TheVariants as cmd
 use Rattle.zr_command.specs.declared.version.VersionName.TheVariants as version
 use Rattle.zr_cmd.specs.Words.{IsJob, IsPath, IsVersion, sets_words, versions_words}
-use Rattle.zr_cmd.specs.declared.forms.Call.{Call}
-use Rattle.zr_cmd.specs.declared.forms.Call.TheVariants as call
+use Rattle.zr_cmd.specs.declared.forms.ZfsCall.{ZfsCall}
+use Rattle.zr_cmd.specs.declared.forms.ZfsCall.TheVariants as call
 use Rattle.zr_cmd.specs.declared.forms.Form.{Form}
 use Rattle.zr_cmd.specs.declared.forms.Form.TheVariants as form
 use Rattle.zr_cmd.specs.declared.forms.Part.{Part}
@@ -55,14 +55,14 @@ pub data Pattern : Type 0 where
   a_tag : Pattern
 
 -- the word is as the pattern has it, behind the word before
-abbrev pub Fits : Pattern → List ℕ → List ℕ → Type 0
-Fits (fixed text) before word = word ≡ text
-Fits a_path before word = IsPath word
-Fits a_snap before word = IsFull 64 word
-Fits a_mark before word = IsFull 35 word
-Fits same_snap before word = IsFull 64 word × (set_part word ≡ set_part before)
-Fits same_mark before word = IsFull 35 word × (set_part word ≡ set_part before)
-Fits a_tag before word = IsJobTag word
+abbrev pub Suits : Pattern → List ℕ → List ℕ → Type 0
+Suits (fixed text) before word = word ≡ text
+Suits a_path before word = IsPath word
+Suits a_snap before word = IsFull 64 word
+Suits a_mark before word = IsFull 35 word
+Suits same_snap before word = IsFull 64 word × (set_part word ≡ set_part before)
+Suits same_mark before word = IsFull 35 word × (set_part word ≡ set_part before)
+Suits a_tag before word = IsJobTag word
 
 -- the words of each form
 abbrev pub patterns_of : Form → List Pattern
@@ -95,7 +95,7 @@ abbrev pub word_at : List (List ℕ) → ℕ → List ℕ
 word_at words place = slice_index_or words place []
 
 -- the call of this form with the names that stand in the words
-abbrev pub read_as : Form → List (List ℕ) → Call
+abbrev pub read_as : Form → List (List ℕ) → ZfsCall
 read_as form.Sets words = call.One cmd.Sets
 read_as form.Versions words = call.One (cmd.Versions (word_at words 11))
 read_as form.Holds words = call.One (cmd.Holds (set_part (word_at words 2)) (name_part (word_at words 2)))

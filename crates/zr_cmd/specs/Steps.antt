@@ -1,19 +1,19 @@
 use Rattle.std.specs.Prelude.{◌-◌, ◌<◌, ◌≤◌, ℕ, List, length, map, slice_index_or, String}
 use Rattle.std.specs.String.{string_bytes}
-use Rattle.zr_cmd.specs.Forms.{Fits, Pattern, a_path, word_at}
+use Rattle.zr_cmd.specs.Forms.{Suits, Pattern, a_path, word_at}
 
 -- the bytes of words
 abbrev pub texts : {Z : Type 0} → List (String Z) → List (List ℕ)
 texts words = map string_bytes words
 
 -- the word at this place is as the pattern there has it
-abbrev pub FitsAt : List Pattern → List (List ℕ) → ℕ → Type 0
-FitsAt patterns words place =
-    Fits (slice_index_or patterns place a_path) (word_at words (place - 1)) (word_at words place)
+abbrev pub SuitsAt : List Pattern → List (List ℕ) → ℕ → Type 0
+SuitsAt patterns words place =
+    Suits (slice_index_or patterns place a_path) (word_at words (place - 1)) (word_at words place)
 
 -- so many words at the front are as the patterns have them, and no more
 pub record IsFront (patterns : List Pattern) (words : List (List ℕ)) (count : ℕ) : Type 0 where
   pub in_words : count ≤ length words
   pub in_patterns : count ≤ length patterns
-  pub fits : (place : ℕ) → place < count → FitsAt patterns words place
-  pub other : count < length words → count < length patterns → FitsAt patterns words count → ⊥
+  pub fits : (place : ℕ) → place < count → SuitsAt patterns words place
+  pub other : count < length words → count < length patterns → SuitsAt patterns words count → ⊥

@@ -13,8 +13,8 @@ use Rattle.zr_cmd.specs.declared.argv.Argv.{Argv}
 use Rattle.zr_cmd.specs.declared.argv.Argv.TheVariants as argv
 use Rattle.zr_cmd.specs.declared.argv.ArgvFault.{ArgvFault}
 use Rattle.zr_cmd.specs.declared.argv.ArgvFault.TheVariants.{UnknownCommand, BadWord, NoMemory}
-use Rattle.zr_cmd.specs.declared.forms.Call.{Call}
-use Rattle.zr_cmd.specs.declared.forms.Call.TheVariants as call
+use Rattle.zr_cmd.specs.declared.forms.ZfsCall.{ZfsCall}
+use Rattle.zr_cmd.specs.declared.forms.ZfsCall.TheVariants as call
 
 -- the words that list all datasets
 unfoldable pub sets_words : List (List ℕ)
@@ -47,7 +47,7 @@ receive_flags false = codes "-s" ∷ codes "-u" ∷ []
 receive_flags true = codes "-s" ∷ codes "-u" ∷ codes "-F" ∷ []
 
 -- the words of each call, after the program's name; a whole transfer is two calls
-abbrev pub words_of : Call → List (List ℕ)
+abbrev pub words_of : ZfsCall → List (List ℕ)
 words_of (call.One cmd.Sets) = sets_words
 words_of (call.One (cmd.Versions path)) = versions_words ++ path ∷ []
 words_of (call.One (cmd.Holds path name)) = codes "holds" ∷ codes "-H" ∷ snap_word path name ∷ []
@@ -76,7 +76,7 @@ IsVersionName (version.Snap name) = IsVersion name
 IsVersionName (version.Mark name) = IsVersion name
 
 -- it is a call, and the names in it are names
-abbrev pub IsNamed : Call → Type 0
+abbrev pub IsNamed : ZfsCall → Type 0
 IsNamed (call.One cmd.Sets) = ⊤
 IsNamed (call.One (cmd.Versions path)) = IsPath path
 IsNamed (call.One (cmd.Holds path name)) = IsPath path × IsVersion name
@@ -90,16 +90,16 @@ IsNamed (call.SendFull path name) = IsPath path × IsVersion name
 IsNamed (call.SendFrom path mark name) = IsPath path × IsVersion mark × IsVersion name
 IsNamed (call.Receive path force) = IsPath path
 
-abbrev pub send_from : Transfer → Base → Call
+abbrev pub send_from : Transfer → Base → ZfsCall
 send_from transfer base.Full = call.SendFull transfer.source transfer.to
 send_from transfer (base.From mark guid) = call.SendFrom transfer.source mark transfer.to
 
 -- the sending end of a transfer
-abbrev pub send_of : Transfer → Call
+abbrev pub send_of : Transfer → ZfsCall
 send_of transfer = send_from transfer transfer.base
 
 -- the receiving end of a transfer
-abbrev pub receive_of : Transfer → Call
+abbrev pub receive_of : Transfer → ZfsCall
 receive_of transfer = call.Receive transfer.target transfer.force
 
 -- the children that a command starts, each by the program's name and its words
@@ -114,13 +114,13 @@ AreNamed (cmd.Transfer transfer) = IsNamed (send_of transfer) × IsNamed (receiv
 AreNamed command = IsNamed (call.One command)
 
 -- the words are those of the call
-pub record Spells (words : List (List ℕ)) (given : Call) : Type 0 where
+pub record Spells (words : List (List ℕ)) (given : ZfsCall) : Type 0 where
   pub same : words ≡ words_of given
   pub named : IsNamed given
 
 -- the words begin those of some call
 pub record Begins (words : List (List ℕ)) : Type 0 where
-  pub given : Call
+  pub given : ZfsCall
   pub more : List (List ℕ)
   pub named : IsNamed given
   pub longer : words_of given ≡ words ++ more
@@ -137,9 +137,9 @@ IsUnknown [] = ⊤
 IsUnknown (word ∷ words) = Begins (word ∷ []) → ⊥
 
 -- how words are read: as the call whose words they are, or else with the number of words that begin those of some call
-abbrev pub Reads : List (List ℕ) → Result Call ArgvFault → Type 0
+abbrev pub Reads : List (List ℕ) → Result ZfsCall ArgvFault → Type 0
 Reads words (Ok given) = Spells words given
 Reads words (Err UnknownCommand) = IsUnknown words
 Reads words (Err (BadWord count)) =
-    (IsUnknown words → ⊥) × ((given : Call) → Spells words given → ⊥) × IsLongest words count
+    (IsUnknown words → ⊥) × ((given : ZfsCall) → Spells words given → ⊥) × IsLongest words count
 Reads words (Err NoMemory) = ⊤

@@ -4,7 +4,7 @@ ghost use Rattle.std.specs.String.{string_bytes};
 ghost use Rattle.zr_names.specs.Marks.{tag_text};
 ghost use Rattle.zr_command.specs.declared.command.Cmd.TheVariants as command;
 ghost use Rattle.zr_command.specs.declared.command.Transfer.{Transfer as TransferValue};
-ghost use Rattle.zr_cmd.specs.declared.forms.Call.TheVariants as call;
+ghost use Rattle.zr_cmd.specs.declared.forms.ZfsCall.TheVariants as call;
 ghost use Rattle.zr_cmd.specs.Words.{AreNamed, argv_words, IsJob, IsNamed, IsPath, IsVersion, IsVersionName, mark_word, send_of, sets_words, snap_word, version_word, versions_words, words_of};
 
 use crate::cutting::tag_front;

@@ -3,7 +3,7 @@ use zr_names::{MarkName, Path, SnapName};
 
 /// One call of `zfs`, as its words tell it.
 #[derive(Drop)]
-pub enum Call {
+pub enum ZfsCall {
     /// A command that is one call; a transfer is none.
     One(Cmd),
     /// Sends a whole snapshot (zfs-send(8)).

@@ -2,7 +2,7 @@
 #![tactic(auto)]
 
 pub use argv::{Argv, ArgvFault, argv_of};
-pub use forms::Call;
+pub use forms::ZfsCall;
 pub use reading::read_argv;
 pub use words::Words;
 

@@ -1,9 +1,9 @@
 ghost use Rattle.std.specs.Prelude.{◌≡◌, IfOk, map};
 ghost use Rattle.std.specs.Bool.{Decides};
-ghost use Rattle.zr_cmd.specs.Forms.{Fits, job_part, kind_part, name_part, pattern_of, patterns_of, read_as, set_part, word_at};
+ghost use Rattle.zr_cmd.specs.Forms.{Suits, job_part, kind_part, name_part, pattern_of, patterns_of, read_as, set_part, word_at};
 ghost use Rattle.zr_cmd.specs.Steps.{IsFront, texts};
 ghost use Rattle.zr_cmd.specs.Words.{IsJob, IsNamed, IsPath, IsVersion, Reads};
-ghost use Rattle.zr_cmd.specs.declared.forms.Call.TheVariants as call;
+ghost use Rattle.zr_cmd.specs.declared.forms.ZfsCall.TheVariants as call;
 ghost use Rattle.zr_cmd.specs.declared.forms.Form.TheVariants as form;
 
 use crate::argv::ArgvFault;
@@ -11,14 +11,14 @@ use crate::cutting::{
     is_full, is_job_tag, is_path, is_same_set, job_of, job_part, kind_part, mark_of, name_part,
     path_of, set_part, snap_of, word_at,
 };
-use crate::forms::{Call, FORMS, Form, Part};
+use crate::forms::{ZfsCall, FORMS, Form, Part};
 use std::alloc::Global;
 use zr_command::{Cmd, VersionName};
 use zr_names::{JobName, MarkName, NoMemory, Path, SnapName, TagKind};
 
 /// Whether a word is as a part of the table has it, behind the word before.
 fn fits(alloc: Global, part: Part, before: &[u8], word: &[u8]) -> Result<bool, NoMemory>
-    ensures { IfOk result (λ yes. Decides yes (Fits (pattern_of part) before.now word.now)) }
+    ensures { IfOk result (λ yes. Decides yes (Suits (pattern_of part) before.now word.now)) }
 {
     match part {
         Part::Fixed(text) => Ok(word == text.as_bytes()),
@@ -85,115 +85,115 @@ fn job_of_tag(alloc: Global, words: &[String]) -> Result<JobName, NoMemory>
 }
 
 /// The call of these words of a hold.
-fn hold_as(alloc: Global, words: &[String]) -> Result<Call, NoMemory>
+fn hold_as(alloc: Global, words: &[String]) -> Result<ZfsCall, NoMemory>
     requires { IsNamed (read_as form.Hold (texts words.now)) }
     ensures { IfOk result (λ given. given ≡ read_as form.Hold (texts words.now)) }
 {
     let job = job_of_tag(alloc, words)?;
     let path = set_at(alloc, words, 2)?;
     let name = snap_at(alloc, words, 2)?;
-    Ok(Call::One(Cmd::Hold(kind_of(words), job, path, name)))
+    Ok(ZfsCall::One(Cmd::Hold(kind_of(words), job, path, name)))
 }
 
 /// The call of these words of a release.
-fn release_as(alloc: Global, words: &[String]) -> Result<Call, NoMemory>
+fn release_as(alloc: Global, words: &[String]) -> Result<ZfsCall, NoMemory>
     requires { IsNamed (read_as form.Release (texts words.now)) }
     ensures { IfOk result (λ given. given ≡ read_as form.Release (texts words.now)) }
 {
     let job = job_of_tag(alloc, words)?;
     let path = set_at(alloc, words, 2)?;
     let name = snap_at(alloc, words, 2)?;
-    Ok(Call::One(Cmd::Release(kind_of(words), job, path, name)))
+    Ok(ZfsCall::One(Cmd::Release(kind_of(words), job, path, name)))
 }
 
 /// The call of these words of a bookmark of a snapshot.
-fn bookmark_snap_as(alloc: Global, words: &[String]) -> Result<Call, NoMemory>
+fn bookmark_snap_as(alloc: Global, words: &[String]) -> Result<ZfsCall, NoMemory>
     requires { IsNamed (read_as form.BookmarkSnap (texts words.now)) }
     ensures { IfOk result (λ given. given ≡ read_as form.BookmarkSnap (texts words.now)) }
 {
     let path = set_at(alloc, words, 1)?;
     let from = snap_at(alloc, words, 1)?;
     let mark = mark_at(alloc, words, 2)?;
-    Ok(Call::One(Cmd::Bookmark(path, VersionName::Snap(from), mark)))
+    Ok(ZfsCall::One(Cmd::Bookmark(path, VersionName::Snap(from), mark)))
 }
 
 /// The call of these words of a bookmark of a bookmark.
-fn bookmark_mark_as(alloc: Global, words: &[String]) -> Result<Call, NoMemory>
+fn bookmark_mark_as(alloc: Global, words: &[String]) -> Result<ZfsCall, NoMemory>
     requires { IsNamed (read_as form.BookmarkMark (texts words.now)) }
     ensures { IfOk result (λ given. given ≡ read_as form.BookmarkMark (texts words.now)) }
 {
     let path = set_at(alloc, words, 1)?;
     let from = mark_at(alloc, words, 1)?;
     let mark = mark_at(alloc, words, 2)?;
-    Ok(Call::One(Cmd::Bookmark(path, VersionName::Mark(from), mark)))
+    Ok(ZfsCall::One(Cmd::Bookmark(path, VersionName::Mark(from), mark)))
 }
 
 /// The call of these words of a listing of versions.
-fn versions_as(alloc: Global, words: &[String]) -> Result<Call, NoMemory>
+fn versions_as(alloc: Global, words: &[String]) -> Result<ZfsCall, NoMemory>
     requires { IsNamed (read_as form.Versions (texts words.now)) }
     ensures { IfOk result (λ given. given ≡ read_as form.Versions (texts words.now)) }
 {
     let path = path_of(alloc, word_at(words, 11))?;
-    Ok(Call::One(Cmd::Versions(path)))
+    Ok(ZfsCall::One(Cmd::Versions(path)))
 }
 
 /// The call of these words of a listing of holds.
-fn holds_as(alloc: Global, words: &[String]) -> Result<Call, NoMemory>
+fn holds_as(alloc: Global, words: &[String]) -> Result<ZfsCall, NoMemory>
     requires { IsNamed (read_as form.Holds (texts words.now)) }
     ensures { IfOk result (λ given. given ≡ read_as form.Holds (texts words.now)) }
 {
     let path = set_at(alloc, words, 2)?;
     let name = snap_at(alloc, words, 2)?;
-    Ok(Call::One(Cmd::Holds(path, name)))
+    Ok(ZfsCall::One(Cmd::Holds(path, name)))
 }
 
 /// The call of these words of a destroy of a snapshot.
-fn destroy_snap_as(alloc: Global, words: &[String]) -> Result<Call, NoMemory>
+fn destroy_snap_as(alloc: Global, words: &[String]) -> Result<ZfsCall, NoMemory>
     requires { IsNamed (read_as form.DestroySnap (texts words.now)) }
     ensures { IfOk result (λ given. given ≡ read_as form.DestroySnap (texts words.now)) }
 {
     let path = set_at(alloc, words, 1)?;
     let name = snap_at(alloc, words, 1)?;
-    Ok(Call::One(Cmd::DestroySnap(path, name)))
+    Ok(ZfsCall::One(Cmd::DestroySnap(path, name)))
 }
 
 /// The call of these words of a destroy of a bookmark.
-fn destroy_mark_as(alloc: Global, words: &[String]) -> Result<Call, NoMemory>
+fn destroy_mark_as(alloc: Global, words: &[String]) -> Result<ZfsCall, NoMemory>
     requires { IsNamed (read_as form.DestroyMark (texts words.now)) }
     ensures { IfOk result (λ given. given ≡ read_as form.DestroyMark (texts words.now)) }
 {
     let path = set_at(alloc, words, 1)?;
     let mark = mark_at(alloc, words, 1)?;
-    Ok(Call::One(Cmd::DestroyMark(path, mark)))
+    Ok(ZfsCall::One(Cmd::DestroyMark(path, mark)))
 }
 
 /// The call of these words of a send of a whole snapshot.
-fn send_full_as(alloc: Global, words: &[String]) -> Result<Call, NoMemory>
+fn send_full_as(alloc: Global, words: &[String]) -> Result<ZfsCall, NoMemory>
     requires { IsNamed (read_as form.SendFull (texts words.now)) }
     ensures { IfOk result (λ given. given ≡ read_as form.SendFull (texts words.now)) }
 {
     let path = set_at(alloc, words, 1)?;
     let name = snap_at(alloc, words, 1)?;
-    Ok(Call::SendFull(path, name))
+    Ok(ZfsCall::SendFull(path, name))
 }
 
 /// The call of these words of a send from a bookmark.
-fn send_from_as(alloc: Global, words: &[String]) -> Result<Call, NoMemory>
+fn send_from_as(alloc: Global, words: &[String]) -> Result<ZfsCall, NoMemory>
     requires { IsNamed (read_as form.SendFrom (texts words.now)) }
     ensures { IfOk result (λ given. given ≡ read_as form.SendFrom (texts words.now)) }
 {
     let path = set_at(alloc, words, 2)?;
     let mark = mark_at(alloc, words, 2)?;
-    Ok(Call::SendFrom(path, mark, snap_at(alloc, words, 3)?))
+    Ok(ZfsCall::SendFrom(path, mark, snap_at(alloc, words, 3)?))
 }
 
 /// The call of this form with the names that stand in the words.
-fn call_as(alloc: Global, form: Form, words: &[String]) -> Result<Call, NoMemory>
+fn call_as(alloc: Global, form: Form, words: &[String]) -> Result<ZfsCall, NoMemory>
     requires { IsNamed (read_as form (texts words.now)) }
     ensures { IfOk result (λ given. given ≡ read_as form (texts words.now)) }
 {
     match form {
-        Form::Sets => Ok(Call::One(Cmd::Sets)),
+        Form::Sets => Ok(ZfsCall::One(Cmd::Sets)),
         Form::Versions => versions_as(alloc, words),
         Form::Holds => holds_as(alloc, words),
         Form::Hold => hold_as(alloc, words),
@@ -204,13 +204,13 @@ fn call_as(alloc: Global, form: Form, words: &[String]) -> Result<Call, NoMemory
         Form::DestroyMark => destroy_mark_as(alloc, words),
         Form::SendFull => send_full_as(alloc, words),
         Form::SendFrom => send_from_as(alloc, words),
-        Form::Receive => Ok(Call::Receive(path_of(alloc, word_at(words, 3))?, false)),
-        Form::ReceiveForced => Ok(Call::Receive(path_of(alloc, word_at(words, 4))?, true)),
+        Form::Receive => Ok(ZfsCall::Receive(path_of(alloc, word_at(words, 3))?, false)),
+        Form::ReceiveForced => Ok(ZfsCall::Receive(path_of(alloc, word_at(words, 4))?, true)),
     }
 }
 
 /// Reads the words after the program's name, as `argv_of` writes them.
-pub fn read_argv(alloc: Global, words: &[String]) -> Result<Call, ArgvFault>
+pub fn read_argv(alloc: Global, words: &[String]) -> Result<ZfsCall, ArgvFault>
     ensures { Reads (texts words.now) result }
 {
     let mut most: usize = 0;

@@ -7,7 +7,7 @@ use Rattle.zr_listing.specs.Listing.{IsHoldListing, IsSetListing, IsVersionListi
 use Rattle.std.proofs.lemmas.List.Sorted.{IsPermutation-sym, IsPermutation-trans}
 use Rattle.zr_cmd.specs.Words.{AreNamed, argv_words, IsNamed, Spells, words_of}
 use Rattle.zr_cmd.specs.declared.argv.Argv.TheVariants as argv
-use Rattle.zr_cmd.specs.declared.forms.Call.TheVariants as call
+use Rattle.zr_cmd.specs.declared.forms.ZfsCall.TheVariants as call
 use Rattle.zr_world.specs.Answering.{Answers, Acts, appended, is_no_memory, Logs}
 use Rattle.zr_world.specs.Effect.{go, left_by}
 use Rattle.zr_world.specs.declared.effects.Extent.TheVariants as extent
@@ -30,7 +30,7 @@ use Rattle.zr_exec.specs.Columns.{hold_of, set_row_of, version_row_of}
 use Rattle.zr_exec.specs.Entries.{answer_in, answer_of, cut_answer, entries_of, entries_of_call, rows_answer, versions_reply}
 use Rattle.zr_exec.specs.Listed.{Listed, listed_by}
 use Rattle.zr_exec.specs.Listed as listed
-use Rattle.zr_exec.specs.Recording.{call_line, Records, with_lines}
+use Rattle.zr_exec.specs.Recording.{call_line, RecordsChild, with_lines}
 use Rattle.zr_exec.specs.Rows.{in_order}
 use Rattle.zr_exec.specs.Serving.{Does, IsReply, Serves}
 use Rattle.zr_exec.specs.Commands.{words_behind}
@@ -182,7 +182,7 @@ module _ (program : List ℕ) where
   no-failure (listed.holds path name) is = is
   no-failure listed.nothing is = is
 
-  short-told : (old new : Option (List Line)) (all : List (List ℕ)) (command : Cmd) (bytes : List ℕ) (given : Answer) → StartsOne program all command → Records old new all exit.NoMemory bytes → IsAnswer (listed_by command) exit.NoMemory bytes given → Logs (entries_of program old) (entries_of program new) command given
+  short-told : (old new : Option (List Line)) (all : List (List ℕ)) (command : Cmd) (bytes : List ℕ) (given : Answer) → StartsOne program all command → RecordsChild old new all exit.NoMemory bytes → IsAnswer (listed_by command) exit.NoMemory bytes given → Logs (entries_of program old) (entries_of program new) command given
   short-told old new all command bytes answer.NoMemory starts records is = elim records [
     | inl same ↦ inl (ap (entries_of program) same)
     | inr kept ↦ inr (answer_of (listed_by command) kept.0 kept.1, call-read old new all command kept.0 kept.1 starts kept.2)
@@ -191,7 +191,7 @@ module _ (program : List ℕ) where
   short-told old new all command bytes answer.Failed starts records is = absurd (no-failure (listed_by command) is)
   short-told old new all command bytes (answer.Garbled n) starts records is = absurd is
 
-  logs : (old new : Option (List Line)) (all : List (List ℕ)) (command : Cmd) (ended : RunExit) (bytes : List ℕ) (given : Answer) → StartsOne program all command → Records old new all ended bytes → IsAnswer (listed_by command) ended bytes given → Logs (entries_of program old) (entries_of program new) command given
+  logs : (old new : Option (List Line)) (all : List (List ℕ)) (command : Cmd) (ended : RunExit) (bytes : List ℕ) (given : Answer) → StartsOne program all command → RecordsChild old new all ended bytes → IsAnswer (listed_by command) ended bytes given → Logs (entries_of program old) (entries_of program new) command given
   logs old new all command exit.Done bytes given starts records is = told old new all command exit.Done bytes given starts records is
   logs old new all command exit.Nonzero bytes given starts records is = told old new all command exit.Nonzero bytes given starts records is
   logs old new all command exit.Failed bytes given starts records is = told old new all command exit.Failed bytes given starts records is
@@ -224,7 +224,7 @@ one_started all named_by program command words own passed same named =
     (subst (λ (ws : List (List ℕ)). StartsOne named_by ws command) (sym passed) (named-words named_by command words same named))
 
 -- what a run of a command leaves in the record, read as commands and answers
-pub run_logs : (program asked : List ℕ) (first old new : Option (List Line)) (all : List (List ℕ)) (command : Cmd) (ended : RunExit) (bytes : List ℕ) (given : Answer) → program ≡ asked → old ≡ first → StartsOne program all command → Records old new all ended bytes → IsAnswer (listed_by command) ended bytes given → Logs (entries_of asked first) (entries_of program new) (plain command) given
+pub run_logs : (program asked : List ℕ) (first old new : Option (List Line)) (all : List (List ℕ)) (command : Cmd) (ended : RunExit) (bytes : List ℕ) (given : Answer) → program ≡ asked → old ≡ first → StartsOne program all command → RecordsChild old new all ended bytes → IsAnswer (listed_by command) ended bytes given → Logs (entries_of asked first) (entries_of program new) (plain command) given
 run_logs program asked first old new all command ended bytes given own begun starts records is =
     subst (λ (p : List ℕ). Logs (entries_of p first) (entries_of program new) (plain command) given) own
     (subst (λ (t : Option (List Line)). Logs (entries_of program t) (entries_of program new) (plain command) given) begun

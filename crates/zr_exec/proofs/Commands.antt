@@ -2,8 +2,8 @@ use Rattle.std.proofs.Common.{◌≡◌, ℕ, Bool, if◌then◌else◌, List, �
 use Rattle.zr_cmd.proofs.Calls.{found, found-spelled, one-call}
 use Rattle.zr_cmd.specs.Calls.{call_of}
 use Rattle.zr_cmd.specs.Words.{IsNamed, receive_of, send_from, send_of, Spells, words_of}
-use Rattle.zr_cmd.specs.declared.forms.Call.{Call}
-use Rattle.zr_cmd.specs.declared.forms.Call.TheVariants as call
+use Rattle.zr_cmd.specs.declared.forms.ZfsCall.{ZfsCall}
+use Rattle.zr_cmd.specs.declared.forms.ZfsCall.TheVariants as call
 use Rattle.zr_command.specs.declared.command.Base.{Base}
 use Rattle.zr_command.specs.declared.command.Base.TheVariants as base
 use Rattle.zr_command.specs.declared.command.Cmd.{Cmd}
@@ -15,7 +15,7 @@ use Rattle.zr_exec.specs.Commands.{command_by, command_in, command_of, transfer_
 use Rattle.zr_exec.specs.Serving.{SpellsPipe}
 use Rattle.zr_exec.proofs.Names.{same_itself}
 
-read : (words : List (List ℕ)) (given : Call) → Spells words given → call_of words ≡ Some given
+read : (words : List (List ℕ)) (given : ZfsCall) → Spells words given → call_of words ≡ Some given
 read words given spelled = ap call_of spelled.same ∙ found given spelled.named
 
 -- words that spell a command are read as it
@@ -23,7 +23,7 @@ pub command_of-spelled : (words : List (List ℕ)) (command : Cmd) → Spells wo
 command_of-spelled words command spelled = ap command_in (read words (call.One command) spelled)
 
 -- words spell one call at most
-pub one_call : (words : List (List ℕ)) (one other : Call) → Spells words one → Spells words other → one ≡ other
+pub one_call : (words : List (List ℕ)) (one other : ZfsCall) → Spells words one → Spells words other → one ≡ other
 one_call words one other p q = one-call one other p.named q.named (sym p.same ∙ q.same)
 
 -- words spell one command at most
@@ -36,7 +36,7 @@ one_command words one other p q =
 -- words that are read as a command are its words
 pub words_of-read : (words : List (List ℕ)) (command : Cmd) → command_of words ≡ Some command → words ≡ words_of (call.One command)
 words_of-read words command is = choose (call_of words) refl is where
-  choose : (given : Option Call) → call_of words ≡ given → command_in given ≡ Some command → words ≡ words_of (call.One command)
+  choose : (given : Option ZfsCall) → call_of words ≡ given → command_in given ≡ Some command → words ≡ words_of (call.One command)
   choose None e is = cc
   choose (Some (call.One one)) e is =
       let same : one ≡ command = cc in

@@ -1,8 +1,8 @@
 use Rattle.std.specs.Prelude.{ℕ, List, [], ◌∷◌, Option, Some, None, if◌then◌else◌}
 use Rattle.std.specs.Option.{option_and_then}
 use Rattle.zr_cmd.specs.Calls.{call_of}
-use Rattle.zr_cmd.specs.declared.forms.Call.{Call}
-use Rattle.zr_cmd.specs.declared.forms.Call.TheVariants as call
+use Rattle.zr_cmd.specs.declared.forms.ZfsCall.{ZfsCall}
+use Rattle.zr_cmd.specs.declared.forms.ZfsCall.TheVariants as call
 use Rattle.zr_command.specs.declared.command.Base.TheVariants as base
 use Rattle.zr_command.specs.declared.command.Cmd.{Cmd}
 use Rattle.zr_command.specs.declared.command.Transfer.{Transfer}
@@ -10,7 +10,7 @@ use Rattle.zr_command.specs.Names.{same_text}
 use Rattle.zr_command.specs.Plain.{no_guid}
 
 -- the command that is one call
-abbrev pub command_in : Option Call → Option Cmd
+abbrev pub command_in : Option ZfsCall → Option Cmd
 command_in (Some (call.One command)) = Some command
 command_in given = None
 
@@ -19,7 +19,7 @@ abbrev pub command_of : List (List ℕ) → Option Cmd
 command_of words = command_in (call_of words)
 
 -- the transfer whose sending and receiving ends these calls are; they name no guids
-abbrev pub transfer_in : Option Call → Option Call → Option Transfer
+abbrev pub transfer_in : Option ZfsCall → Option ZfsCall → Option Transfer
 transfer_in (Some (call.SendFull source to)) (Some (call.Receive target force)) =
     Some (record { source = source; to = to; guid = no_guid; base = base.Full; target = target; force = force })
 transfer_in (Some (call.SendFrom source mark to)) (Some (call.Receive target force)) =

@@ -17,11 +17,11 @@ call_line words exit written = line.Call (record { words = words; exit = exit; w
 
 -- the record has the call with its words, its exit and what the child wrote; where memory was refused, it may lack the
 -- call, or have it with another exit
-abbrev pub Records : Option (List Line) → Option (List Line) → List (List ℕ) → RunExit → List ℕ → Type 0
-Records before now words NoMemory written =
+abbrev pub RecordsChild : Option (List Line) → Option (List Line) → List (List ℕ) → RunExit → List ℕ → Type 0
+RecordsChild before now words NoMemory written =
     (now ≡ before)
     ⊎ ((exit : RunExit) × (bytes : List ℕ) × (now ≡ with_lines before (call_line words exit bytes ∷ [])))
-Records before now words exit written = now ≡ with_lines before (call_line words exit written ∷ [])
+RecordsChild before now words exit written = now ≡ with_lines before (call_line words exit written ∷ [])
 
 -- the line of a pipe
 abbrev pub pipe_line : List (List ℕ) → List (List ℕ) → PipeExit → Line

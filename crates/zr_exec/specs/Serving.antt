@@ -1,6 +1,6 @@
 use Rattle.std.specs.Prelude.{◌≡◌, ℕ, List, Option, Some, None, ⊤, ◌⊎◌}
 use Rattle.zr_cmd.specs.Words.{receive_of, send_of, Spells}
-use Rattle.zr_cmd.specs.declared.forms.Call.TheVariants as call
+use Rattle.zr_cmd.specs.declared.forms.ZfsCall.TheVariants as call
 use Rattle.zr_exec.specs.declared.spawn.PipeExit.{PipeExit}
 use Rattle.zr_exec.specs.declared.spawn.PipeExit.TheVariants as piped
 use Rattle.zr_exec.specs.declared.spawn.RunExit.{RunExit}

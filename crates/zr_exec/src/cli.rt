@@ -1,7 +1,7 @@
 ghost use Rattle.std.specs.Prelude.{◌≡◌, ◌≤◌, ◌+◌, ◌<◌, ◌^◌, length};
 ghost use Rattle.zr_exec.specs.Answering.{IsAnswer, newlines, pipe_answer, refusal_of};
 ghost use Rattle.zr_exec.specs.Listed.{listed_by};
-ghost use Rattle.zr_world.specs.Answering.{Fits};
+ghost use Rattle.zr_world.specs.Answering.{IsReplyTo};
 
 use crate::spawn::{LISTING_LIMIT, PipeExit, RunExit, Spawn};
 use std::alloc::Global;
@@ -78,7 +78,7 @@ fn refused(fault: ListFault) -> Answer
 /// Reads what a child wrote that ended well.
 fn read_reply(alloc: Global, cmd: &Cmd, out: &[u8]) -> Answer
     ensures answer { IsAnswer (listed_by cmd.now) RunExit.Done out.now result }
-    ensures shape { Fits cmd.now result }
+    ensures shape { IsReplyTo cmd.now result }
 {
     match cmd {
         Cmd::Sets => match read_sets(alloc, out) {
@@ -106,7 +106,7 @@ fn read_reply(alloc: Global, cmd: &Cmd, out: &[u8]) -> Answer
 fn answer(alloc: Global, cmd: &Cmd, exit: RunExit, out: &[u8]) -> Answer
     requires { length out.now ≤ LISTING_LIMIT }
     ensures answer { IsAnswer (listed_by cmd.now) exit out.now result }
-    ensures shape { Fits cmd.now result }
+    ensures shape { IsReplyTo cmd.now result }
 {
     match (exit, cmd) {
         (RunExit::Done, _) => read_reply(alloc, cmd, out),
@@ -134,7 +134,7 @@ impl<S: Spawn> Zfs for CliZfs<S> {
 
     ghost pools = { λ c. S.pools c.children };
 
-    ghost told = { λ c. entries_of c.program (S.told c.children) };
+    ghost history = { λ c. entries_of c.program (S.history c.children) };
 
     #[tactic(auto, using(crate::proofs::Told::begin_told))]
     fn begin(&mut self, unit: &Unit, run: u64) -> Result<(), NoMemory> {

@@ -1,7 +1,7 @@
 ghost use Rattle.zr_exec.specs.declared.spawn.TheConstants.{LISTING_LIMIT};
 ghost use Rattle.std.specs.Prelude.{◌≡◌, List, Some, false, ℕ};
 ghost use Rattle.zr_cmd.specs.Words.{Spells, words_of};
-ghost use Rattle.zr_cmd.specs.declared.forms.Call.TheVariants as call;
+ghost use Rattle.zr_cmd.specs.declared.forms.ZfsCall.TheVariants as call;
 ghost use Rattle.zr_exec.specs.Answering.{IsAnswer};
 ghost use Rattle.zr_exec.specs.Commands.{command_of, transfer_of};
 ghost use Rattle.zr_exec.specs.Entries.{answer_of};

@@ -1,6 +1,6 @@
 ghost use Rattle.std.specs.Prelude.{◌≡◌, ◌≤◌, ℕ, [], ◌∷◌, List, Option, OnOk, OnErr, drop, length, map, string_bytes};
 ghost use Rattle.zr_exec.specs.Exits.{HasExitCause, HasPipeCause};
-ghost use Rattle.zr_exec.specs.Recording.{with_lines, Records, RecordsPipe};
+ghost use Rattle.zr_exec.specs.Recording.{with_lines, RecordsChild, RecordsPipe};
 ghost use Rattle.zr_exec.specs.Serving.{Serves, ServesPipe};
 ghost use Rattle.zr_exec.specs.declared.spawn.Line.{Line as LineValue};
 ghost use Rattle.zr_exec.specs.declared.spawn.Line.TheVariants.{Begin};
@@ -66,7 +66,7 @@ pub trait Spawn {
     ghost faults: { Self → ℕ };
 
     /// The record of begun runs and calls, where it is told.
-    ghost told: { Self → Option (List LineValue) };
+    ghost history: { Self → Option (List LineValue) };
 
     /// The pools on which the children work, where they are told.
     ghost pools: { Self → Option PoolsValue };
@@ -75,8 +75,8 @@ pub trait Spawn {
     fn begin(&mut self, unit: &Unit, run: u64) -> Result<(), NoMemory>
         ensures faults { faults self.new ≡ faults self.old }
         ensures pools { pools self.new ≡ pools self.old }
-        ensures ok { OnOk result (told self.new ≡ with_lines (told self.old) (Begin unit.now run ∷ [])) }
-        ensures err { OnErr result (told self.new ≡ told self.old) };
+        ensures ok { OnOk result (history self.new ≡ with_lines (history self.old) (Begin unit.now run ∷ [])) }
+        ensures err { OnErr result (history self.new ≡ history self.old) };
 
     /// Runs the program that the first word names with the other words, and leaves in `out` what it
     /// wrote, up to the limit, in place of what was there.
@@ -84,14 +84,14 @@ pub trait Spawn {
         ensures cause { HasExitCause (faults self.old) (faults self.new) result }
         ensures within { length out.new.items ≤ LISTING_LIMIT }
         ensures full { result ≡ RunExit.TooLong → length out.new.items ≡ LISTING_LIMIT }
-        ensures told { Records (told self.old) (told self.new) (map string_bytes argv.now) result out.new.items }
+        ensures told { RecordsChild (history self.old) (history self.new) (map string_bytes argv.now) result out.new.items }
         ensures pools { Serves (drop 1 (map string_bytes argv.now))
             (pools self.old) (pools self.new) result out.new.items };
 
     /// Runs two programs, each named by its first word, the second one reading what the first one writes.
     fn pipe(&mut self, send: &[String], receive: &[String]) -> PipeExit
         ensures cause { HasPipeCause (faults self.old) (faults self.new) result }
-        ensures told { RecordsPipe (told self.old) (told self.new)
+        ensures told { RecordsPipe (history self.old) (history self.new)
             (map string_bytes send.now) (map string_bytes receive.now) result }
         ensures pools { ServesPipe (drop 1 (map string_bytes send.now)) (drop 1 (map string_bytes receive.now))
             (pools self.old) (pools self.new) result };

@@ -5,7 +5,7 @@ use Rattle.std.proofs.lemmas.List.{append-nil}
 use Rattle.std.specs.List.{list_any}
 use Rattle.std.specs.Cmp.Lexicographic.{bytes_decides, pointwise}
 use Rattle.std.proofs.lemmas.List.Folds.{list_any-append}
-use Rattle.zr_filter.specs.declared.entry.Entry.{Entry}
+use Rattle.zr_filter.specs.declared.entry.FilterEntry.{FilterEntry}
 use Rattle.zr_filter.specs.declared.filter.Filter.{Filter}
 use Rattle.zr_filter.specs.Rule.{MatchesNothingWithin, allows, allows_within, counting, covers, greatest, is_within, path_passes, rank, reaches, root_length, subtree_rank}
 use Rattle.zr_filter.proofs.Counting.{counting-none, counting-taken, counting-left, greatest-more, no_higher}
@@ -103,7 +103,7 @@ agrees {X} rank other same xs x is some = grow (λ ys. (y : X) → counting rank
       ]
 
 -- an entry that speaks of a root as a subtree speaks of the paths below it as closely
-subtree_below : (root path : List ℕ) → is_within root path ≡ true → (entry : Entry) → 0 < subtree_rank root entry → subtree_rank root entry ≡ rank path entry
+subtree_below : (root path : List ℕ) → is_within root path ≡ true → (entry : FilterEntry) → 0 < subtree_rank root entry → subtree_rank root entry ≡ rank path entry
 subtree_below root path is entry some = at entry.path entry.subtree entry.allow some where
   at : (own : Option (List ℕ)) (subtree allow : Bool) → 0 < subtree_rank root (record { path = own; subtree = subtree; allow = allow }) → subtree_rank root (record { path = own; subtree = subtree; allow = allow }) ≡ rank path (record { path = own; subtree = subtree; allow = allow })
   at own false allow some = absurd (omega arith)
@@ -116,7 +116,7 @@ subtree_below root path is entry some = at entry.path entry.subtree entry.allow 
     choose false e some = absurd (omega arith)
 
 -- an entry that counts for a path below a root, and does not cover the root, is itself at or below it
-lies_within : (root path : List ℕ) → is_within root path ≡ true → (entry : Entry) → 0 < rank path entry → covers root entry ≡ false → path_passes (λ own. is_within root own) false entry.path ≡ true
+lies_within : (root path : List ℕ) → is_within root path ≡ true → (entry : FilterEntry) → 0 < rank path entry → covers root entry ≡ false → path_passes (λ own. is_within root own) false entry.path ≡ true
 lies_within root path is entry some apart = at entry.path entry.subtree entry.allow some apart where
   at : (own : Option (List ℕ)) (subtree allow : Bool) → 0 < rank path (record { path = own; subtree = subtree; allow = allow }) → covers root (record { path = own; subtree = subtree; allow = allow }) ≡ false → path_passes (λ o. is_within root o) false own ≡ true
   at None true allow some apart = cc
@@ -141,7 +141,7 @@ outside filter root none path is = at (counting (rank path) filter.entries) refl
   parts : (allows (counting (subtree_rank root) filter.entries) ≡ false) × (list_any (allows_within root) filter.entries ≡ false)
   parts = or_false (allows (counting (subtree_rank root) filter.entries)) (list_any (allows_within root) filter.entries) none
 
-  at : (o : Option Entry) → counting (rank path) filter.entries ≡ o → allows o ≡ false
+  at : (o : Option FilterEntry) → counting (rank path) filter.entries ≡ o → allows o ≡ false
   at None e = refl
   at (Some entry) e = choose (covers root entry) refl where
     told : Told (rank path) filter.entries entry

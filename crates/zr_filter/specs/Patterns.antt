@@ -3,7 +3,7 @@ use Rattle.std.specs.Prelude.{◌≡◌, ◌≢◌, ◌==◌, ℕ, ◌-◌, Bool
 use Rattle.zr_names.specs.Names.{IsName, Reads, path_is_bad}
 use Rattle.zr_names.specs.declared.names.TheConstants.{PATH_LIMIT}
 use Rattle.zr_names.specs.declared.reading.NameFault.{NameFault}
-use Rattle.zr_filter.specs.declared.entry.Entry.{Entry}
+use Rattle.zr_filter.specs.declared.entry.FilterEntry.{FilterEntry}
 
 -- the `<` of a subtree
 abbrev pub mark : Bool → List ℕ
@@ -24,6 +24,6 @@ abbrev pub stem : List ℕ → List ℕ
 stem text = if ends_in_mark text then take (length text - 1) text else text
 
 -- what a pattern reads as: the entry that is written so; else the fault of the path, with its places
-abbrev pub ReadsPattern : List ℕ → Bool → Result Entry NameFault → Type 0
+abbrev pub ReadsPattern : List ℕ → Bool → Result FilterEntry NameFault → Type 0
 ReadsPattern text allow (Ok entry) = IsWritten text entry.path entry.subtree × (entry.allow ≡ allow)
 ReadsPattern text allow (Err fault) = (text ≢ mark true) × Reads path_is_bad PATH_LIMIT (stem text) (Err fault)

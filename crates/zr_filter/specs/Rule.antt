@@ -4,7 +4,7 @@ use Rattle.std.specs.List.{starts_with, list_any}
 use Rattle.std.specs.Cmp.Lexicographic.{pointwise}
 use Rattle.zr_filter.specs.declared.entry.Among.{Among}
 use Rattle.zr_filter.specs.declared.entry.Among.TheVariants.{All, Subtrees}
-use Rattle.zr_filter.specs.declared.entry.Entry.{Entry}
+use Rattle.zr_filter.specs.declared.entry.FilterEntry.{FilterEntry}
 use Rattle.zr_filter.specs.declared.filter.Filter.{Filter}
 
 -- the path lies below a root: it begins with the root, and a `/` follows
@@ -21,11 +21,11 @@ path_passes test without None = without
 path_passes test without (Some path) = test path
 
 -- an entry without `<` whose path is this path
-abbrev pub is_exact : List ℕ → Entry → Bool
+abbrev pub is_exact : List ℕ → FilterEntry → Bool
 is_exact path entry = not entry.subtree && path_passes (λ own. pointwise nat_eq path own) false entry.path
 
 -- a subtree entry whose path is this path or an ancestor of it; `<` alone is above every path
-abbrev pub covers : List ℕ → Entry → Bool
+abbrev pub covers : List ℕ → FilterEntry → Bool
 covers path entry = entry.subtree && path_passes (λ root. is_within root path) true entry.path
 
 -- the length of an entry's path, `<` alone being the shortest
@@ -34,15 +34,15 @@ root_length None = 0
 root_length (Some root) = length root
 
 -- how closely a subtree entry speaks of a path: 0 is not at all
-abbrev pub subtree_rank : List ℕ → Entry → ℕ
+abbrev pub subtree_rank : List ℕ → FilterEntry → ℕ
 subtree_rank path entry = if covers path entry then suc (root_length entry.path) else 0
 
 -- how closely an entry speaks of a path: an exact entry more than each subtree entry
-abbrev pub rank : List ℕ → Entry → ℕ
+abbrev pub rank : List ℕ → FilterEntry → ℕ
 rank path entry = if is_exact path entry then length path + 2 else subtree_rank path entry
 
 -- the same among all entries or among subtree entries
-abbrev pub rank_among : Among → List ℕ → Entry → ℕ
+abbrev pub rank_among : Among → List ℕ → FilterEntry → ℕ
 rank_among All path = rank path
 rank_among Subtrees path = subtree_rank path
 
@@ -63,7 +63,7 @@ unfoldable pub counting : {X : Type 0} → (X → ℕ) → List X → Option X
 counting rank xs = last_of (ranked_at rank (greatest rank xs) xs)
 
 -- an entry's answer, and false where none counts
-abbrev pub allows : Option Entry → Bool
+abbrev pub allows : Option FilterEntry → Bool
 allows None = false
 allows (Some entry) = entry.allow
 
@@ -72,7 +72,7 @@ abbrev pub matches : Filter → List ℕ → Bool
 matches filter path = allows (counting (rank path) filter.entries)
 
 -- an entry that allows, and whose path is this root or lies below it
-abbrev pub allows_within : List ℕ → Entry → Bool
+abbrev pub allows_within : List ℕ → FilterEntry → Bool
 allows_within root entry = entry.allow && path_passes (λ path. is_within root path) false entry.path
 
 -- whether a filter may match a path at or below a root

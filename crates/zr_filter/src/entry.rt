@@ -5,7 +5,7 @@ use zr_names::Path;
 
 /// One line of a filter (zrepl's documentation, "Filter Syntax").
 #[derive(Drop)]
-pub struct Entry {
+pub struct FilterEntry {
     /// None, with `subtree`, stands for `<` alone, which is above every path.
     pub path: Option<Path>,
     /// Whether the entry also speaks of the paths below its own.
@@ -36,7 +36,7 @@ fn is_within(root: &Path, path: &Path) -> bool
     path == root || lies_below(root, path)
 }
 
-impl Entry {
+impl FilterEntry {
     ghost use Rattle.std.specs.Prelude.{◌≡◌, ◌≤◌};
     ghost use Rattle.zr_names.specs.declared.names.TheConstants.{PATH_LIMIT};
     ghost use Rattle.zr_filter.specs.Rule.{allows_within, covers, is_exact, rank_among, root_length, subtree_rank};

@@ -2,17 +2,17 @@ ghost use Rattle.std.specs.Prelude.{◌≡◌, false};
 ghost use Rattle.std.specs.List.{list_any};
 ghost use Rattle.zr_filter.specs.Rule.{MatchesNothingWithin, allows, allows_within, counting, matches, rank_among, reaches};
 
-use crate::entry::{Among, Entry};
+use crate::entry::{Among, FilterEntry};
 use zr_names::{Path, Rows};
 
 /// Which filesystems a job works on. The order of entries tells only between equal ones.
 #[derive(Drop)]
 pub struct Filter {
-    pub entries: Rows<Entry>,
+    pub entries: Rows<FilterEntry>,
 }
 
 /// The answer of the entry that counts for a path, among all or among subtrees; false where none does.
-fn allows(entries: &[Entry], among: Among, path: &Path) -> bool
+fn allows(entries: &[FilterEntry], among: Among, path: &Path) -> bool
     ensures { result ≡ allows (counting (rank_among among path.now) entries.now) }
 {
     let mut greatest = 0;
@@ -35,7 +35,7 @@ pub fn matches(filter: &Filter, path: &Path) -> bool
     allows(filter.entries.as_slice(), Among::All, path)
 }
 
-fn some_allows_within(entries: &[Entry], root: &Path) -> bool
+fn some_allows_within(entries: &[FilterEntry], root: &Path) -> bool
     ensures { result ≡ list_any (allows_within root.now) entries.now }
 {
     entries.iter().any(|entry| entry.allows_within(root))

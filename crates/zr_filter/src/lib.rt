@@ -5,6 +5,6 @@ mod entry;
 mod filter;
 mod pattern;
 
-pub use entry::Entry;
+pub use entry::FilterEntry;
 pub use filter::{Filter, matches, reaches};
 pub use pattern::read_pattern;

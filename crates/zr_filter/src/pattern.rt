@@ -1,7 +1,7 @@
 ghost use Rattle.std.specs.Prelude.{◌≡◌};
 ghost use Rattle.zr_filter.specs.Patterns.{ReadsPattern, ends_in_mark, stem};
 
-use crate::entry::Entry;
+use crate::entry::FilterEntry;
 use std::alloc::Global;
 use zr_names::{NameFault, read_path};
 
@@ -23,17 +23,17 @@ fn stem(text: &[u8]) -> &[u8]
 
 /// Reads a pattern with its answer: `<` alone, a path, or a path followed by `<`. A fault is the one of
 /// `read_path` on the text without the final `<`.
-pub fn read_pattern(alloc: Global, text: &[u8], allow: bool) -> Result<Entry, NameFault>
+pub fn read_pattern(alloc: Global, text: &[u8], allow: bool) -> Result<FilterEntry, NameFault>
     ensures { ReadsPattern text.now allow result }
 {
     if text == b"<".as_slice() {
-        return Ok(Entry {
+        return Ok(FilterEntry {
             path: None,
             subtree: true,
             allow,
         });
     }
-    Ok(Entry {
+    Ok(FilterEntry {
         path: Some(read_path(alloc, stem(text))?),
         subtree: ends_in_mark(text),
         allow,

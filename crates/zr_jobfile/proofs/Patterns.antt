@@ -5,7 +5,7 @@ use Rattle.zr_names.specs.Names.{IsName, path_is_bad, Reads}
 use Rattle.zr_names.specs.declared.names.TheConstants.{PATH_LIMIT}
 use Rattle.zr_names.specs.declared.reading.NameFault.{NameFault}
 use Rattle.zr_names.specs.declared.reading.NameFault.TheVariants.{Empty, BadByte, TooLong, NoMemory}
-use Rattle.zr_filter.specs.declared.entry.Entry.{Entry}
+use Rattle.zr_filter.specs.declared.entry.FilterEntry.{FilterEntry}
 use Rattle.zr_filter.specs.Patterns.{ends_in_mark, IsWritten, mark, ReadsPattern, stem}
 use Rattle.zr_filter.proofs.Stems.{stem-mark}
 use Rattle.zr_jobfile.specs.SnapFile.{IsPattern}
@@ -57,7 +57,7 @@ not-refused text (BadByte place) name other refused =
 not-refused text NoMemory name other refused = other refl
 
 -- a text that is refused as a pattern is that of no entry
-pub no-entry : (text : List ℕ) (fault : NameFault) → fault ≢ NoMemory → ReadsPattern text true (Err fault) → (entry : Entry) → ¬ IsPattern text entry
+pub no-entry : (text : List ℕ) (fault : NameFault) → fault ≢ NoMemory → ReadsPattern text true (Err fault) → (entry : FilterEntry) → ¬ IsPattern text entry
 no-entry text fault other refused entry is = choose entry.path is.0 where
   choose : (path : Option (List ℕ)) → IsWritten text path entry.subtree → ⊥
   choose None written = refused.0 written.1

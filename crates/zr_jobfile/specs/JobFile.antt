@@ -2,7 +2,7 @@
 use Rattle.std.specs.Prelude.{⊤, ◌≡◌, ◌⊎◌, ℕ, ◌<◌, ◌≤◌, List, Some, None, Result, Ok, Err, length, IsUtf8}
 use Rattle.toml.specs.Data.{Members}
 use Rattle.toml.specs.Parse.{parse_document}
-use Rattle.zr_filter.specs.declared.entry.Entry.{Entry}
+use Rattle.zr_filter.specs.declared.entry.FilterEntry.{FilterEntry}
 use Rattle.zr_jobs.specs.declared.job.JobSet.{JobSet}
 use Rattle.zr_jobfile.specs.SnapFile.{IsPattern, IsSnapFile}
 use Rattle.zr_jobfile.specs.PushFile.{ArePaired, IsPushFile, pushing, PushJob, SinkJob}
@@ -22,9 +22,9 @@ Names IsGood text (Err NoMemory) = ⊤
 Names IsGood text (Err other) = ⊥
 
 -- what a text is answered as a pattern: the entry exactly where it is one
-abbrev pub Patterns : List ℕ → Result Entry JobFault → Type 0
+abbrev pub Patterns : List ℕ → Result FilterEntry JobFault → Type 0
 Patterns text (Ok entry) = IsPattern text entry
-Patterns text (Err NotBuilt) = (entry : Entry) → ¬ IsPattern text entry
+Patterns text (Err NotBuilt) = (entry : FilterEntry) → ¬ IsPattern text entry
 Patterns text (Err NoMemory) = ⊤
 Patterns text (Err other) = ⊥
 

@@ -3,7 +3,7 @@ use Rattle.std.specs.Prelude.{◌≡◌, ℕ, ◌<◌, ◌≤◌, true, codes, L
 use Rattle.toml.specs.Data.{Data, string, integer, array, table, no_items, item, Members, no_members, member}
 use Rattle.zr_names.specs.declared.names.TheConstants.{JOB_LIMIT}
 use Rattle.zr_names.specs.Names.{IsName, name_is_bad}
-use Rattle.zr_filter.specs.declared.entry.Entry.{Entry}
+use Rattle.zr_filter.specs.declared.entry.FilterEntry.{FilterEntry}
 use Rattle.zr_filter.specs.Patterns.{ReadsPattern}
 use Rattle.zr_jobs.specs.declared.job.JobSet.{JobSet}
 use Rattle.zr_jobs.specs.declared.job.RuleSpec.TheVariants.{LastN}
@@ -36,7 +36,7 @@ abbrev pub snap_file : List ℕ → List ℕ → ℕ → Members
 snap_file name pattern count = one_job_file (job_tree name pattern count)
 
 -- one job of this name with this entry as its filter, which keeps the newest `count` snapshots
-abbrev pub one_job : List ℕ → Entry → ℕ → JobSet
+abbrev pub one_job : List ℕ → FilterEntry → ℕ → JobSet
 one_job name entry count = record {
   jobs =
       record {
@@ -48,14 +48,14 @@ one_job name entry count = record {
 }
 
 -- the text is a pattern that includes, and this is its entry
-abbrev pub IsPattern : List ℕ → Entry → Type 0
+abbrev pub IsPattern : List ℕ → FilterEntry → Type 0
 IsPattern text entry = ReadsPattern text true (Ok entry)
 
 -- the tree is that of a snap job file, and these are its jobs
 pub record IsSnapFile (tree : Members) (jobs : JobSet) : Type 0 where
   pub name : List ℕ
   pub pattern : List ℕ
-  pub entry : Entry
+  pub entry : FilterEntry
   pub count : ℕ
   pub tree_is : tree ≡ snap_file name pattern count
   pub name_is : IsName name_is_bad JOB_LIMIT name

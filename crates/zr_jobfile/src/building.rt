@@ -13,7 +13,7 @@ use crate::push_shape::{PushParts, SinkParts, push_file_parts};
 use crate::snap_shape::file_parts;
 use std::alloc::{AllocError, Global};
 use toml::Table;
-use zr_filter::{Entry, Filter, reaches, read_pattern};
+use zr_filter::{FilterEntry, Filter, reaches, read_pattern};
 use zr_jobs::{Destination, Identity, IdentityFault, Job, JobSet, RuleSpec, read_identity};
 use zr_names::{JobName, NameFault, Path, Rows, read_job, read_path};
 
@@ -48,7 +48,7 @@ fn client_identity(alloc: Global, text: &str) -> Result<Identity, JobFault>
 }
 
 /// The entry of a filter that includes what a pattern stands for.
-fn entry(alloc: Global, text: &str) -> Result<Entry, JobFault>
+fn entry(alloc: Global, text: &str) -> Result<FilterEntry, JobFault>
     ensures { Patterns text.now result }
 {
     match read_pattern(alloc, text.as_bytes(), true) {
@@ -59,7 +59,7 @@ fn entry(alloc: Global, text: &str) -> Result<Entry, JobFault>
 }
 
 /// A job set of this one job.
-fn one_job(alloc: Global, name: JobName, entry: Entry, count: u32) -> Result<JobSet, AllocError>
+fn one_job(alloc: Global, name: JobName, entry: FilterEntry, count: u32) -> Result<JobSet, AllocError>
     ensures { IfOk result (λ jobs. jobs ≡ one_job name entry count) }
 {
     let mut entries = Rows::new(alloc);
@@ -95,7 +95,7 @@ fn sole_filter(alloc: Global, path: Path) -> Result<Filter, AllocError>
     ensures { IfOk result (λ filter. filter ≡ only_path path) }
 {
     let mut entries = Rows::new(alloc);
-    entries.push(Entry {
+    entries.push(FilterEntry {
         path: Some(path),
         subtree: false,
         allow: true,

@@ -2,7 +2,7 @@
 use Rattle.std.proofs.Common.{◌≡◌, ◌==◌, ◌<◌, Bool, true, false, cond, List, [], None, ap, ap₂, arith, length, refl, sym, ◌∙◌, inr, ⊎_elim}
 use Rattle.std.proofs.lemmas.Bool.{eqb-true, false≢true}
 use Rattle.std.proofs.lemmas.List.{nil_from_length}
-use Rattle.zr_ledger.specs.Kept.{Keeps}
+use Rattle.zr_ledger.specs.Kept.{IsKept}
 use Rattle.zr_ledger.specs.Out.{Out}
 use Rattle.zr_ledger.specs.Ready.{first_ready}
 use Rattle.zr_ledger.specs.Turns.{IsOver, Place, away, finished, here, idle, is_spent}
@@ -21,7 +21,7 @@ idle-ended here outs answer = cc
 idle-ended away outs answer = cc
 idle-ended finished outs answer = (refl, none-out (length outs == 0) outs refl answer)
 
-pub over-by : (s : State) (clock : Place) (answer : Turn) → Keeps s → first_ready s.limits s.waiting s.outs ≡ None → answer ≡ idle clock s.outs → answer ≡ Ended → IsOver s clock
+pub over-by : (s : State) (clock : Place) (answer : Turn) → IsKept s → first_ready s.limits s.waiting s.outs ≡ None → answer ≡ idle clock s.outs → answer ≡ Ended → IsOver s clock
 over-by s clock answer keeps unready is ended =
     let both = idle-ended clock s.outs (sym is ∙ ended) in
     inr (both.0, none-waits s keeps both.1 unready, both.1)
@@ -33,6 +33,6 @@ ended-by s clock answer left is over =
     (λ (end : (clock ≡ finished) × (s.waiting ≡ []) × (s.outs ≡ [])). is ∙ ap₂ idle end.0 end.2)
     over
 
-pub waits-for-none : (s : State) → Keeps s → first_ready s.limits s.waiting s.outs ≡ None → s.outs ≡ [] → 0 < length s.waiting → ⊥
+pub waits-for-none : (s : State) → IsKept s → first_ready s.limits s.waiting s.outs ≡ None → s.outs ≡ [] → 0 < length s.waiting → ⊥
 waits-for-none s keeps unready none some =
     let empty = ap length (none-waits s keeps none unready) in absurd (omega arith)

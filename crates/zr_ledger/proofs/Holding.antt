@@ -7,7 +7,7 @@ use Rattle.std.proofs.lemmas.List.Quantifiers.{position-Some}
 use Rattle.std.proofs.lemmas.Option.{slice_get_within}
 use Rattle.zr_names.specs.declared.outcome.Outcome.{Outcome}
 use Rattle.zr_names.specs.declared.unit.Unit.{Unit}
-use Rattle.zr_ledger.specs.Kept.{HasLimit, HasRoom, Holds, Keeps}
+use Rattle.zr_ledger.specs.Kept.{HasLimit, HasRoom, Holds, IsKept}
 use Rattle.zr_ledger.specs.Out.{Out}
 use Rattle.zr_ledger.specs.Ready.{first_ready, is_ticket}
 use Rattle.zr_ledger.specs.Steps.{ended, first_taken, is_new, joined, joined_all, joins, next_base, recalled, replay, standing, started, starts, starts_at, with_end, with_run}
@@ -122,7 +122,7 @@ pub holds-added : (base base_now : State) (history begun more : List Entry) (s n
 holds-added base base_now history begun more s now units outs_room history_room outs_now history_now holds begins grown is has outs_in history_in = record {
   replayed = ap (replay base_now) grown ∙ replay-append base_now begun (map Add units)
       ∙ ap (λ (x : State). replay x (map Add units)) begins ∙ replay-adds s units ∙ sym is;
-  keeps = subst Keeps (sym is) (keeps-joined_all s units holds.keeps has);
+  keeps = subst IsKept (sym is) (keeps-joined_all s units holds.keeps has);
   has_room = room-added s now begun more units outs_now history_now is grown outs_in history_in;
 }
 

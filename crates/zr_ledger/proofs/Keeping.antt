@@ -9,7 +9,7 @@ use Rattle.zr_names.specs.declared.outcome.Outcome.{Outcome}
 use Rattle.zr_names.specs.declared.unit.Unit.{Unit}
 use Rattle.zr_names.specs.declared.unit.Work.{Work}
 use Rattle.zr_names.specs.declared.unit.Work.TheVariants.{Scan, Parents, Snap, Replicate, PruneSource, PruneTarget}
-use Rattle.zr_ledger.specs.Kept.{AllowsSome, HasLimit, IsWithinLimits, Keeps}
+use Rattle.zr_ledger.specs.Kept.{AllowsSome, HasLimit, IsWithinLimits, IsKept}
 use Rattle.zr_ledger.specs.Out.{Out}
 use Rattle.zr_ledger.specs.Ready.{count_out, first_ready, is_free, is_live, is_out, is_ready, is_within}
 use Rattle.zr_ledger.specs.Seats.{has_key, is_ancestor_of, is_replicate, is_replicate_of, is_scan, is_snap_of, same_kind, same_seat, seat_of}
@@ -78,7 +78,7 @@ limits-remove limits outs place out within so = record {
 }
 
 -- of each kind, once the unit at a place is taken
-numbers-taken : (s : State) (place : ℕ) (unit : Unit) (work : Work) → Keeps s → place < length s.waiting → get_or s.waiting place unit ≡ unit → number_of work s.counts.accepted ≡ plus (number_of work (raised unit.work s.counts.taken)) (count_by (λ (other : Unit). same_kind work other.work) (remove s.waiting place))
+numbers-taken : (s : State) (place : ℕ) (unit : Unit) (work : Work) → IsKept s → place < length s.waiting → get_or s.waiting place unit ≡ unit → number_of work s.counts.accepted ≡ plus (number_of work (raised unit.work s.counts.taken)) (count_by (λ (other : Unit). same_kind work other.work) (remove s.waiting place))
 numbers-taken s place unit work keeps within is =
     let left : count_by (λ (other : Unit). same_kind work other.work) (remove s.waiting place) + cond (same_kind work unit.work) 1 0 ≡ count_by (λ (other : Unit). same_kind work other.work) s.waiting =
     subst (λ (x : Unit). count_by (λ (other : Unit). same_kind work other.work) (remove s.waiting place) + cond (same_kind work x.work) 1 0 ≡ count_by (λ (other : Unit). same_kind work other.work) s.waiting) is
@@ -89,7 +89,7 @@ numbers-taken s place unit work keeps within is =
     ∙ ap (λ (n : ℕ). plus n (count_by (λ (other : Unit). same_kind work other.work) (remove s.waiting place))) (sym (number_of-raised work unit.work s.counts.taken))
 
 -- and once one more is accepted
-numbers-added : (s : State) (unit : Unit) (work : Work) → Keeps s → number_of work (raised unit.work s.counts.accepted) ≡ plus (number_of work s.counts.taken) (count_by (λ (other : Unit). same_kind work other.work) (s.waiting ++ unit ∷ []))
+numbers-added : (s : State) (unit : Unit) (work : Work) → IsKept s → number_of work (raised unit.work s.counts.accepted) ≡ plus (number_of work s.counts.taken) (count_by (λ (other : Unit). same_kind work other.work) (s.waiting ++ unit ∷ []))
 numbers-added s unit work keeps =
     number_of-raised work unit.work s.counts.accepted
     ∙ after_add (same_kind work unit.work) (number_of work s.counts.accepted) (number_of work s.counts.taken)
@@ -97,7 +97,7 @@ numbers-added s unit work keeps =
     (count_by (λ (other : Unit). same_kind work other.work) (s.waiting ++ unit ∷ [])) (keeps.numbers work)
     (count_by-push (λ (other : Unit). same_kind work other.work) s.waiting unit)
 
-keeps-ready : (s : State) (place : ℕ) (out : Out) → Keeps s → place < length s.waiting → get_or s.waiting place out.unit ≡ out.unit → out.run ≡ s.counts.given + 1 → is_ready s.limits s.waiting s.outs out.unit ≡ true → Keeps (record s { waiting = remove s.waiting place; outs = s.outs ++ out ∷ []; counts = with_run out.unit.work s.counts })
+keeps-ready : (s : State) (place : ℕ) (out : Out) → IsKept s → place < length s.waiting → get_or s.waiting place out.unit ≡ out.unit → out.run ≡ s.counts.given + 1 → is_ready s.limits s.waiting s.outs out.unit ≡ true → IsKept (record s { waiting = remove s.waiting place; outs = s.outs ++ out ∷ []; counts = with_run out.unit.work s.counts })
 keeps-ready s place out keeps within is run ready =
     let both = and_parts (not (is_out (λ other. same_seat (seat_of out.unit) (seat_of other)) s.outs)) (is_free s.limits s.waiting s.outs out.unit.job out.unit.work) ready in
     record {
@@ -111,7 +111,7 @@ keeps-ready s place out keeps within is run ready =
     }
 
 -- the first unit that is ready starts
-pub keeps-started : (s : State) (place : ℕ) (unit : Unit) → Keeps s → first_ready s.limits s.waiting s.outs ≡ Some place → slice_get s.waiting place ≡ Some unit → Keeps (started place unit s)
+pub keeps-started : (s : State) (place : ℕ) (unit : Unit) → IsKept s → first_ready s.limits s.waiting s.outs ≡ Some place → slice_get s.waiting place ≡ Some unit → IsKept (started place unit s)
 keeps-started s place unit keeps found at =
     let is = get_or_from_slice_get s.waiting place unit unit at in
     let first = position-Some (is_ready s.limits s.waiting s.outs) s.waiting place unit found in
@@ -119,7 +119,7 @@ keeps-started s place unit keeps found at =
     (subst (λ (x : Unit). is_ready s.limits s.waiting s.outs x ≡ true) is first.1)
 
 -- the unit at a place ends
-pub keeps-ended : (s : State) (place : ℕ) (out : Out) (outcome : Outcome) → Keeps s → place < length s.outs → Keeps (ended place outcome s)
+pub keeps-ended : (s : State) (place : ℕ) (out : Out) (outcome : Outcome) → IsKept s → place < length s.outs → IsKept (ended place outcome s)
 keeps-ended s place out outcome keeps within = record {
   allows = keeps.allows;
   waiting = keeps.waiting;
@@ -129,7 +129,7 @@ keeps-ended s place out outcome keeps within = record {
   numbers = keeps.numbers;
 }
 
-keeps-joins : (is : Bool) (s : State) (unit : Unit) → Keeps s → HasLimit s.limits unit → Keeps (joins is unit s)
+keeps-joins : (is : Bool) (s : State) (unit : Unit) → IsKept s → HasLimit s.limits unit → IsKept (joins is unit s)
 keeps-joins true s unit keeps has = record {
   allows = keeps.allows;
   waiting = All-push (HasLimit s.limits) s.waiting unit keeps.waiting has;
@@ -148,7 +148,7 @@ keeps-joins false s unit keeps has = record {
 }
 
 -- a unit is added
-pub keeps-joined : (s : State) (unit : Unit) → Keeps s → HasLimit s.limits unit → Keeps (joined s unit)
+pub keeps-joined : (s : State) (unit : Unit) → IsKept s → HasLimit s.limits unit → IsKept (joined s unit)
 keeps-joined s unit keeps has = keeps-joins (is_new s unit) s unit keeps has
 
 joins-limits : (is : Bool) (s : State) (unit : Unit) → (joins is unit s).limits ≡ s.limits
@@ -156,14 +156,14 @@ joins-limits true s unit = refl
 joins-limits false s unit = refl
 
 -- units are added
-pub keeps-joined_all : (s : State) (units : List Unit) → Keeps s → All (HasLimit s.limits) units → Keeps (joined_all s units)
+pub keeps-joined_all : (s : State) (units : List Unit) → IsKept s → All (HasLimit s.limits) units → IsKept (joined_all s units)
 keeps-joined_all s [] keeps all = keeps
 keeps-joined_all s (unit ∷ units) keeps all =
     keeps-joined_all (joined s unit) units (keeps-joined s unit keeps (All-head (HasLimit s.limits) unit units all))
     (subst (λ (limits : Limits). All (HasLimit limits) units) (sym (joins-limits (is_new s unit) s unit)) (All-tail (HasLimit s.limits) unit units all))
 
 -- none is out
-pub keeps-recalled : (s : State) → Keeps s → Keeps (recalled s)
+pub keeps-recalled : (s : State) → IsKept s → IsKept (recalled s)
 keeps-recalled s keeps = record {
   allows = keeps.allows;
   waiting = keeps.waiting;
@@ -174,7 +174,7 @@ keeps-recalled s keeps = record {
 }
 
 -- nothing is there
-pub keeps-nothing : (limits : Limits) → AllowsSome limits → Keeps (nothing limits)
+pub keeps-nothing : (limits : Limits) → AllowsSome limits → IsKept (nothing limits)
 keeps-nothing limits allows = record {
   allows = allows;
   waiting = All-nil (HasLimit limits);

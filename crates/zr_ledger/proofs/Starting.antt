@@ -10,7 +10,7 @@ use Rattle.std.proofs.lemmas.List.Quantifiers.{position-Some}
 use Rattle.zr_names.specs.declared.unit.Unit.{Unit}
 use Rattle.zr_names.specs.declared.unit.Work.{Work}
 use Rattle.zr_names.specs.declared.unit.Work.TheVariants.{Scan, Parents, Snap, Replicate, PruneSource, PruneTarget}
-use Rattle.zr_ledger.specs.Kept.{AllowsSome, HasLimit, Keeps}
+use Rattle.zr_ledger.specs.Kept.{AllowsSome, HasLimit, IsKept}
 use Rattle.zr_ledger.specs.Out.{Out}
 use Rattle.zr_ledger.specs.Ready.{first_ready, is_free, is_live, is_ready}
 use Rattle.zr_ledger.specs.Seats.{has_key, is_ancestor_of, is_replicate, is_replicate_above, is_scan, is_snap_of, lies_below, same_kind, same_seat, seat_at, seat_of}
@@ -226,7 +226,7 @@ not-found p xs none =
     (cases_lt (position_or_len p xs) (length xs)))
 
 -- where nothing is ready and nothing is out, nothing waits
-pub none-waits : (s : State) → Keeps s → s.outs ≡ [] → first_ready s.limits s.waiting s.outs ≡ None → s.waiting ≡ []
+pub none-waits : (s : State) → IsKept s → s.outs ≡ [] → first_ready s.limits s.waiting s.outs ≡ None → s.waiting ≡ []
 none-waits s keeps none unready =
     ⊎_elim
     (λ (some : 0 < length s.waiting).

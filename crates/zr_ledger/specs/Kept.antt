@@ -36,7 +36,7 @@ pub record IsWithinLimits (limits : Limits) (outs : List Out) : Type 0 where
   pub replicators : count_out (λ unit. is_replicate unit.work) outs ≤ limits.replicators
 
 -- what is true of the state of every ledger
-pub record Keeps (s : State) : Type 0 where
+pub record IsKept (s : State) : Type 0 where
   -- each limit allows one, and each unit has a limit
   pub allows : AllowsSome s.limits
   pub waiting : All (HasLimit s.limits) s.waiting
@@ -61,5 +61,5 @@ IsReplayed ledger = replay ledger.base ledger.history ≡ ledger.state
 -- what a ledger keeps of its parts
 pub record Holds (base : State) (history : List Entry) (s : State) (outs_room history_room : ℕ) : Type 0 where
   pub replayed : replay base history ≡ s
-  pub keeps : Keeps s
+  pub keeps : IsKept s
   pub has_room : HasRoom s history outs_room history_room

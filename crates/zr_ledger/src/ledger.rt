@@ -52,7 +52,7 @@ impl<C: Drop> Ledger<C> {
     ghost use Rattle.std.specs.Prelude.{◌≡◌, ◌<◌, ◌↔◌, [], ◌++◌, All, IfOk, IfErr, OnErr, OnOk, IsNone, IsTrue, false, true, is_ok, if◌then◌else◌, length, map, position};
     ghost use Rattle.std.specs.List.{list_any};
     ghost use Rattle.zr_names.specs.Totals.{plus};
-    ghost use Rattle.zr_ledger.specs.Kept.{AllowsSome, HasLimit, IsReplayed, Keeps};
+    ghost use Rattle.zr_ledger.specs.Kept.{AllowsSome, HasLimit, IsReplayed, IsKept};
     ghost use Rattle.zr_ledger.specs.Ready.{is_ticket};
     ghost use Rattle.zr_ledger.specs.Steps.{coalesced_from, given_back, is_long, joined_all, nothing};
     ghost use Rattle.zr_ledger.specs.Turns.{away, finished, here, IsIdle, IsOver, IsWaiting, is_here, is_spent, is_work, turn, turned};
@@ -227,7 +227,7 @@ impl<C: Drop> Ledger<C> {
     /// What was counted. The call tells what each ledger keeps.
     pub fn totals(&self) -> Totals
         ensures totals { result ≡ self.now.state.counts.totals }
-        ensures kept { Keeps self.now.state }
+        ensures kept { IsKept self.now.state }
         ensures replayed { IsReplayed self.now }
     {
         self.counts.totals

@@ -10,7 +10,7 @@ use Rattle.zr_command.specs.declared.version.VersionName.{VersionName}
 use Rattle.zr_command.specs.declared.version.VersionName.TheVariants.{Snap, Mark}
 use Rattle.zr_command.specs.declared.version.VersionRow.{VersionRow}
 use Rattle.zr_listing.specs.Columns.{full_name, columns, IsToken, IsSetLine, IsSuffix, IsVersionName, IsNumber, IsRefs, IsVersionLine, IsHoldLine}
-use Rattle.zr_listing.specs.Reading.{Finds}
+use Rattle.zr_listing.specs.Reading.{ReadsOr}
 use Rattle.zr_listing.specs.declared.faults.LineFault.{LineFault}
 use Rattle.zr_listing.specs.declared.faults.LineFault.TheVariants as fault
 
@@ -84,12 +84,12 @@ IsVersionLine-one path line a b p q =
     ∙ ap (λ x. row b.name b.guid.0 b.txg b.creation x) refs
 
 -- the suffix that follows the path
-pub Finds-suffix : (path column suffix : List ℕ) (r : Result VersionName LineFault) → column ≡ path ++ suffix → Finds (IsSuffix suffix) r → Finds (IsVersionName path column) r
-Finds-suffix path column suffix (Ok name) full finds = record { suffix = suffix; full = full; is_suffix = finds }
-Finds-suffix path column suffix (Err fault.Bad) full finds = λ name is.
+pub ReadsOr-suffix : (path column suffix : List ℕ) (r : Result VersionName LineFault) → column ≡ path ++ suffix → ReadsOr (IsSuffix suffix) r → ReadsOr (IsVersionName path column) r
+ReadsOr-suffix path column suffix (Ok name) full finds = record { suffix = suffix; full = full; is_suffix = finds }
+ReadsOr-suffix path column suffix (Err fault.Bad) full finds = λ name is.
     let same : is.suffix ≡ suffix = append_cancel_left path is.suffix suffix (sym is.full ∙ full) in
     finds name (subst (λ (s : List ℕ). IsSuffix s name) same is.is_suffix)
-Finds-suffix path column suffix (Err fault.NoMemory) full finds = tt
+ReadsOr-suffix path column suffix (Err fault.NoMemory) full finds = tt
 
 -- without a number of holes a line is bad
 pub bad-refs : (path line name guid txg creation refs : List ℕ) (n : VersionName) → columns line ≡ name ∷ guid ∷ txg ∷ creation ∷ refs ∷ [] → IsVersionName path name n → ((m : ℕ) → IsRefs n refs m → ⊥) → (row : VersionRow) → IsVersionLine path line row → ⊥
@@ -109,7 +109,7 @@ bad-name path line name guid txg creation refs spelled bad row is =
     bad row.name (subst (λ (c : List ℕ). IsVersionName path c row.name) same_name is.is_name)
 
 -- what a `?` hands on of a bad part
-pub handed-on : {X Y : Type 0} (P : X → Type 0) (Q : Y → Type 0) (e : LineFault) (r : Result Y LineFault) → Finds P (Err e) → IsErrAnd r (λ f. f ≡ e) → (((x : X) → P x → ⊥) → (y : Y) → Q y → ⊥) → Finds Q r
+pub handed-on : {X Y : Type 0} (P : X → Type 0) (Q : Y → Type 0) (e : LineFault) (r : Result Y LineFault) → ReadsOr P (Err e) → IsErrAnd r (λ f. f ≡ e) → (((x : X) → P x → ⊥) → (y : Y) → Q y → ⊥) → ReadsOr Q r
 handed-on P Q e (Ok y) finds err more = absurd err
 handed-on P Q fault.Bad (Err f) finds err more = rw err (more finds)
 handed-on P Q fault.NoMemory (Err f) finds err more = rw err tt

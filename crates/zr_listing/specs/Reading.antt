@@ -12,7 +12,7 @@ line_fault (name.BadByte place) = fault.Bad
 line_fault (name.TooLong n) = fault.Bad
 
 -- what a reader of a text answers: a value that the text spells, or that it spells none; where memory was refused it may spell one
-abbrev pub Finds : {X : Type 0} → (X → Type 0) → Result X LineFault → Type 0
-Finds spells (Ok x) = spells x
-Finds {X} spells (Err fault.Bad) = (x : X) → spells x → ⊥
-Finds spells (Err fault.NoMemory) = ⊤
+abbrev pub ReadsOr : {X : Type 0} → (X → Type 0) → Result X LineFault → Type 0
+ReadsOr spells (Ok x) = spells x
+ReadsOr {X} spells (Err fault.Bad) = (x : X) → spells x → ⊥
+ReadsOr spells (Err fault.NoMemory) = ⊤

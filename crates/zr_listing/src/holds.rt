@@ -2,7 +2,7 @@ ghost use Rattle.std.specs.Prelude.{◌≡◌, ◌≢◌, ◌∷◌, ℕ, List, 
 ghost use Rattle.zr_listing.specs.Columns.{full_name, IsHoldLine, IsTag};
 ghost use Rattle.zr_listing.specs.Lines.{IsBadAt};
 ghost use Rattle.zr_listing.specs.Listing.{IsGarbled, IsHoldListing};
-ghost use Rattle.zr_listing.specs.Reading.{Finds};
+ghost use Rattle.zr_listing.specs.Reading.{ReadsOr};
 ghost use Rattle.zr_command.specs.declared.version.VersionName.TheVariants.{Snap};
 
 use crate::columns::{second_column, three_columns};
@@ -36,7 +36,7 @@ fn is_asked(path: &Path, snap: &SnapName, column: &[u8]) -> bool
 
 /// Reads the column of a tag.
 fn tag_of(alloc: Global, column: &[u8]) -> Result<Tag, LineFault>
-    ensures { Finds (IsTag column.now) result }
+    ensures { ReadsOr (IsTag column.now) result }
 {
     Ok(read_tag(alloc, column)?)
 }
@@ -48,7 +48,7 @@ pub(crate) fn hold_row(
     snap: &SnapName,
     line: &[u8],
 ) -> Result<Tag, LineFault>
-    ensures { Finds (IsHoldLine path.now snap.now line.now) result }
+    ensures { ReadsOr (IsHoldLine path.now snap.now line.now) result }
 {
     let (full, tag, date) = three_columns(line).ok_or(LineFault::Bad)?;
     if date.is_empty() || !is_asked(path, snap, full) {

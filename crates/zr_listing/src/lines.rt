@@ -2,7 +2,7 @@ ghost use Rattle.std.specs.Prelude.{◌≡◌, [], ◌∷◌, ◌++◌, ℕ, Lis
 ghost use Rattle.zr_listing.specs.Lines.{IsBadAt, Lines, NamesDiffer};
 ghost use Rattle.zr_listing.specs.Steps.{Begins, BeginsBad};
 ghost use Rattle.zr_listing.specs.declared.faults.LineFault.TheVariants.{Bad};
-ghost use Rattle.zr_listing.specs.Reading.{Finds};
+ghost use Rattle.zr_listing.specs.Reading.{ReadsOr};
 
 use crate::columns::cut;
 use crate::faults::{LineFault, ListFault};
@@ -21,7 +21,7 @@ pub(crate) trait Kind {
 
     /// Reads a line.
     fn row(&self, alloc: Global, line: &[u8]) -> Result<Self::Row, LineFault>
-        ensures { Finds (spells self.now line.now) result };
+        ensures { ReadsOr (spells self.now line.now) result };
 
     /// The name in a line that spells a row.
     fn name_in<'a>(&self, line: &'a [u8]) -> &'a [u8]

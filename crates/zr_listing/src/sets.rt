@@ -5,7 +5,7 @@ ghost use Rattle.zr_names.specs.declared.names.TheConstants.{PATH_LIMIT};
 ghost use Rattle.zr_listing.specs.Columns.{IsSetLine, IsPath, IsToken};
 ghost use Rattle.zr_listing.specs.Lines.{IsBadAt};
 ghost use Rattle.zr_listing.specs.Listing.{IsGarbled, IsSetListing};
-ghost use Rattle.zr_listing.specs.Reading.{Finds};
+ghost use Rattle.zr_listing.specs.Reading.{ReadsOr};
 ghost use Rattle.zr_command.specs.Listings.{IsSetList};
 
 use crate::columns::{first_column, three_columns};
@@ -17,14 +17,14 @@ use zr_names::{Path, Rows, TokenText, read_path, read_token_text};
 
 /// Reads the column of a path.
 fn path_of(alloc: Global, column: &[u8]) -> Result<Path, LineFault>
-    ensures { Finds (IsPath column.now) result }
+    ensures { ReadsOr (IsPath column.now) result }
 {
     Ok(read_path(alloc, column)?)
 }
 
 /// Reads the column of a resume token.
 fn token_of(alloc: Global, column: &[u8]) -> Result<Option<TokenText>, LineFault>
-    ensures { Finds (IsToken column.now) result }
+    ensures { ReadsOr (IsToken column.now) result }
 {
     if column == b"-".as_slice() {
         return Ok(None);
@@ -34,7 +34,7 @@ fn token_of(alloc: Global, column: &[u8]) -> Result<Option<TokenText>, LineFault
 
 /// Reads a line of a listing of datasets.
 pub(crate) fn set_row(alloc: Global, line: &[u8]) -> Result<SetRow, LineFault>
-    ensures { Finds (IsSetLine line.now) result }
+    ensures { ReadsOr (IsSetLine line.now) result }
 {
     let (path, flag, token) = three_columns(line).ok_or(LineFault::Bad)?;
     if flag.is_empty() {

@@ -5,7 +5,7 @@ ghost use Rattle.zr_listing.specs.Columns.{full_name, IsBareName, IsNumber, IsRe
 ghost use Rattle.zr_listing.specs.Lines.{IsBadAt};
 ghost use Rattle.zr_listing.specs.Listing.{IsGarbled, IsVersionListing};
 ghost use Rattle.zr_listing.specs.Order.{row_cmp};
-ghost use Rattle.zr_listing.specs.Reading.{Finds};
+ghost use Rattle.zr_listing.specs.Reading.{ReadsOr};
 ghost use Rattle.zr_command.specs.Listings.{IsVersionList};
 
 use crate::columns::{first_column, read_number, version_columns};
@@ -18,21 +18,21 @@ use zr_names::{Guid, MarkName, Path, Rows, SnapName, read_mark, read_snap};
 
 /// Reads the name of a snapshot, without the `@`.
 fn snap_of(alloc: Global, text: &[u8]) -> Result<SnapName, LineFault>
-    ensures { Finds (IsBareName text.now) result }
+    ensures { ReadsOr (IsBareName text.now) result }
 {
     Ok(read_snap(alloc, text)?)
 }
 
 /// Reads the name of a bookmark, without the `#`.
 fn mark_of(alloc: Global, text: &[u8]) -> Result<MarkName, LineFault>
-    ensures { Finds (IsBareName text.now) result }
+    ensures { ReadsOr (IsBareName text.now) result }
 {
     Ok(read_mark(alloc, text)?)
 }
 
 /// Reads what follows the path in a full name.
 fn suffix_of(alloc: Global, text: &[u8]) -> Result<VersionName, LineFault>
-    ensures { Finds (IsSuffix text.now) result }
+    ensures { ReadsOr (IsSuffix text.now) result }
 {
     let Some((kind, name)) = text.split_first() else {
         return Err(LineFault::Bad);
@@ -54,7 +54,7 @@ pub(crate) fn without_path<'a>(path: &Path, column: &'a [u8]) -> Option<&'a [u8]
 
 /// Reads the column of a full name, whose dataset is the one that was asked for.
 fn name_of(alloc: Global, path: &Path, column: &[u8]) -> Result<VersionName, LineFault>
-    ensures { Finds (IsVersionName path.now column.now) result }
+    ensures { ReadsOr (IsVersionName path.now column.now) result }
 {
     let Some(suffix) = without_path(path, column) else {
         return Err(LineFault::Bad);
@@ -64,14 +64,14 @@ fn name_of(alloc: Global, path: &Path, column: &[u8]) -> Result<VersionName, Lin
 
 /// Reads the column of a number.
 fn number_of(column: &[u8]) -> Result<u64, LineFault>
-    ensures { Finds (IsNumber column.now) result }
+    ensures { ReadsOr (IsNumber column.now) result }
 {
     read_number(column).ok_or(LineFault::Bad)
 }
 
 /// Reads the column of the number of holds, which a bookmark has as `-`.
 fn refs_of(name: &VersionName, column: &[u8]) -> Result<u64, LineFault>
-    ensures { Finds (IsRefs name.now column.now) result }
+    ensures { ReadsOr (IsRefs name.now column.now) result }
 {
     match name {
         VersionName::Snap(_) => number_of(column),
@@ -82,7 +82,7 @@ fn refs_of(name: &VersionName, column: &[u8]) -> Result<u64, LineFault>
 
 /// Reads a line of a listing of the versions of a dataset.
 pub(crate) fn version_row(alloc: Global, path: &Path, line: &[u8]) -> Result<VersionRow, LineFault>
-    ensures { Finds (IsVersionLine path.now line.now) result }
+    ensures { ReadsOr (IsVersionLine path.now line.now) result }
 {
     let Some(columns) = version_columns(line) else {
         return Err(LineFault::Bad);

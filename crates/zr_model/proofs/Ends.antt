@@ -1,13 +1,13 @@
 use Rattle.std.proofs.Common.{◌≡◌, ℕ, List, Option, Some, None, inl, inr, ap, sym, subst}
 use Rattle.zr_cmd.specs.Words.{receive_of, send_of, Spells}
-use Rattle.zr_cmd.specs.declared.forms.Call.{Call}
-use Rattle.zr_cmd.specs.declared.forms.Call.TheVariants as call
+use Rattle.zr_cmd.specs.declared.forms.ZfsCall.{ZfsCall}
+use Rattle.zr_cmd.specs.declared.forms.ZfsCall.TheVariants as call
 use Rattle.zr_exec.specs.declared.spawn.Line.{Line}
 use Rattle.zr_exec.specs.declared.spawn.PipeExit.{PipeExit}
 use Rattle.zr_exec.specs.declared.spawn.PipeExit.TheVariants as piped
 use Rattle.zr_exec.specs.declared.spawn.RunExit.{RunExit}
 use Rattle.zr_exec.specs.declared.spawn.RunExit.TheVariants.{NoMemory}
-use Rattle.zr_model.specs.Piping.{AreEnds, Finds}
+use Rattle.zr_model.specs.Piping.{AreEnds, FindsOne}
 use Rattle.zr_exec.specs.Serving.{Does, DoesPipe, DoesTransfer, DoesWords, PipeGives}
 use Rattle.zr_model.specs.Ends.{EndsUnplanned}
 use Rattle.zr_exec.proofs.Answers.{does_short}
@@ -67,14 +67,14 @@ unplanned_spelled words command given before exit spelled ends other =
     subst (λ (c : Cmd). EndsUnplanned c before exit) (one_command words command given spelled other) ends
 
 -- a pipe whose words spell no call at one of its ends gives no transfer
-pub unsent : (send receive : List (List ℕ)) (pools : Pools) (transfer : Transfer) → ((given : Call) → Spells send given → ⊥) → PipeGives send receive pools transfer → ⊥
+pub unsent : (send receive : List (List ℕ)) (pools : Pools) (transfer : Transfer) → ((given : ZfsCall) → Spells send given → ⊥) → PipeGives send receive pools transfer → ⊥
 unsent send receive pools transfer none gives = none (send_of transfer) gives.spelled.sends
 
-pub unreceived : (send receive : List (List ℕ)) (pools : Pools) (transfer : Transfer) → ((given : Call) → Spells receive given → ⊥) → PipeGives send receive pools transfer → ⊥
+pub unreceived : (send receive : List (List ℕ)) (pools : Pools) (transfer : Transfer) → ((given : ZfsCall) → Spells receive given → ⊥) → PipeGives send receive pools transfer → ⊥
 unreceived send receive pools transfer none gives = none (receive_of transfer) gives.spelled.receives
 
 -- a pipe whose words spell these calls gives the transfer whose ends they are
-pub found_gives : (send receive : List (List ℕ)) (pools : Pools) (sends receives : Call) (found : Option Transfer) → Spells send sends → Spells receive receives → Finds (AreEnds pools sends receives) found → Finds (PipeGives send receive pools) found
+pub found_gives : (send receive : List (List ℕ)) (pools : Pools) (sends receives : ZfsCall) (found : Option Transfer) → Spells send sends → Spells receive receives → FindsOne (AreEnds pools sends receives) found → FindsOne (PipeGives send receive pools) found
 found_gives send receive pools sends receives None sent received none = λ other gives. none other (record {
   sends = one_call send sends (send_of other) sent gives.spelled.sends;
   receives = one_call receive receives (receive_of other) received gives.spelled.receives;

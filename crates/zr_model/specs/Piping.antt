@@ -2,14 +2,14 @@ use Rattle.std.specs.Prelude.{◌≡◌, Bool, true, false, Option, Some, None}
 use Rattle.zr_cmd.specs.Words.{receive_of, send_of}
 use Rattle.zr_cmd.specs.declared.argv.ArgvFault.{ArgvFault}
 use Rattle.zr_cmd.specs.declared.argv.ArgvFault.TheVariants.{UnknownCommand, BadWord, NoMemory}
-use Rattle.zr_cmd.specs.declared.forms.Call.{Call}
+use Rattle.zr_cmd.specs.declared.forms.ZfsCall.{ZfsCall}
 use Rattle.zr_command.specs.declared.command.Cmd.TheVariants as cmd
 use Rattle.zr_command.specs.declared.command.Transfer.{Transfer}
 use Rattle.zr_world.specs.declared.pools.Pools.{Pools}
 use Rattle.zr_world.specs.Reasons.{first_that_applies, source_reasons}
 
 -- the calls are the two ends of the transfer, and its guids are those that stand on the source
-pub record AreEnds (pools : Pools) (send receive : Call) (transfer : Transfer) : Type 0 where
+pub record AreEnds (pools : Pools) (send receive : ZfsCall) (transfer : Transfer) : Type 0 where
   pub sends : send ≡ send_of transfer
   pub receives : receive ≡ receive_of transfer
   pub stands : first_that_applies (source_reasons pools (cmd.Transfer transfer)) ≡ None
@@ -21,6 +21,6 @@ is_unspelled (BadWord count) = true
 is_unspelled NoMemory = false
 
 -- one that fits is found, or none does
-abbrev pub Finds : {T : Type 0} → (T → Type 0) → Option T → Type 0
-Finds {T} fits None = (other : T) → fits other → ⊥
-Finds fits (Some found) = fits found
+abbrev pub FindsOne : {T : Type 0} → (T → Type 0) → Option T → Type 0
+FindsOne {T} fits None = (other : T) → fits other → ⊥
+FindsOne fits (Some found) = fits found

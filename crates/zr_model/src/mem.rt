@@ -8,17 +8,17 @@ use std::alloc::{AllocError, Global};
 use std::marker::Model;
 use zr_exec::{Call, Line, PipeExit, Piped, RunExit, Spawn};
 use zr_names::{Bytes, NoMemory, Rows, Same, Unit};
-use zr_world::{Planned, Pools};
+use zr_world::{PlannedFailure, Pools};
 
 /// A runner of children that work on pools in memory. It tells its pools and its record.
 #[derive(Drop)]
 pub struct MemSpawn {
     alloc: Global,
     pools: Pools,
-    failing: Vec<Planned>,
+    failing: Vec<PlannedFailure>,
     calls: u64,
     faults: u64,
-    told: Vec<Line>,
+    history: Vec<Line>,
 }
 
 impl Model for MemSpawn {
@@ -32,7 +32,7 @@ impl Model for MemSpawn {
       failing = m.failing.items;
       calls = m.calls;
       faults = m.faults;
-      told = m.told.items;
+      history = m.history.items;
     } };
 
     ghost invariant = { λ m. IsWellFormed m.pools };
@@ -44,14 +44,14 @@ impl MemSpawn {
 
     /// A runner whose n-th `run` or `pipe`, counted together from 1, fails where `failing` names n.
     /// `is_well_formed` tests pools.
-    pub fn new(alloc: Global, pools: Pools, failing: Vec<Planned>) -> MemSpawn
+    pub fn new(alloc: Global, pools: Pools, failing: Vec<PlannedFailure>) -> MemSpawn
         requires { IsWellFormed pools }
         ensures { result ≡ record {
           pools = pools;
           failing = failing.items;
           calls = 0;
           faults = 0;
-          told = [];
+          history = [];
         } }
     {
         MemSpawn {
@@ -60,7 +60,7 @@ impl MemSpawn {
             failing,
             calls: 0,
             faults: 0,
-            told: Vec::new(alloc),
+            history: Vec::new(alloc),
         }
     }
 
@@ -71,10 +71,10 @@ impl MemSpawn {
     }
 
     /// The begun runs and the calls so far.
-    pub fn told(&self) -> &[Line]
-        ensures { result.now ≡ self.now.told }
+    pub fn history(&self) -> &[Line]
+        ensures { result.now ≡ self.now.history }
     {
-        self.told.as_slice()
+        self.history.as_slice()
     }
 }
 
@@ -104,28 +104,28 @@ fn call_line(alloc: Global, words: &[String], exit: RunExit, out: &[u8]) -> Resu
     }))
 }
 
-fn push(told: &mut Vec<Line>, line: Line) -> Result<(), NoMemory>
-    ensures ok { OnOk result (told.new.items ≡ told.old.items ++ line ∷ []) }
-    ensures err { OnErr result (told.new.items ≡ told.old.items) }
+fn push(history: &mut Vec<Line>, line: Line) -> Result<(), NoMemory>
+    ensures ok { OnOk result (history.new.items ≡ history.old.items ++ line ∷ []) }
+    ensures err { OnErr result (history.new.items ≡ history.old.items) }
 {
-    told.push(line)?;
+    history.push(line)?;
     Ok(())
 }
 
 /// Puts a call into the record, or answers want of memory in place of its exit.
 fn recorded(
     alloc: Global,
-    told: &mut Vec<Line>,
+    history: &mut Vec<Line>,
     words: &[String],
     exit: RunExit,
     out: &[u8],
 ) -> RunExit
-    ensures { IsRecorded told.old.items told.new.items (map string_bytes words.now) exit out.now result }
+    ensures { IsRecorded history.old.items history.new.items (map string_bytes words.now) exit out.now result }
 {
     let Ok(line) = call_line(alloc, words, exit, out) else {
         return RunExit::NoMemory;
     };
-    match push(told, line) {
+    match push(history, line) {
         Ok(()) => exit,
         Err(NoMemory) => RunExit::NoMemory,
     }
@@ -149,18 +149,18 @@ fn pipe_line(
 /// Puts a pipe into the record, or answers want of memory in place of its exit.
 fn recorded_pipe(
     alloc: Global,
-    told: &mut Vec<Line>,
+    history: &mut Vec<Line>,
     send: &[String],
     receive: &[String],
     exit: PipeExit,
 ) -> PipeExit
-    ensures { IsRecordedPipe told.old.items told.new.items
+    ensures { IsRecordedPipe history.old.items history.new.items
         (map string_bytes send.now) (map string_bytes receive.now) exit result }
 {
     let Ok(line) = pipe_line(alloc, send, receive, exit) else {
         return PipeExit::NoMemory;
     };
-    match push(told, line) {
+    match push(history, line) {
         Ok(()) => exit,
         Err(NoMemory) => PipeExit::NoMemory,
     }
@@ -171,17 +171,17 @@ impl Spawn for MemSpawn {
 
     ghost faults = { λ m. m.faults };
 
-    ghost told = { λ m. Some m.told };
+    ghost history = { λ m. Some m.history };
 
     ghost pools = { λ m. Some m.pools };
 
     fn begin(&mut self, unit: &Unit, run: u64) -> Result<(), NoMemory> {
-        push(&mut self.told, begin_line(unit, run)?)
+        push(&mut self.history, begin_line(unit, run)?)
     }
 
     fn run(&mut self, argv: &[String], out: &mut Vec<u8>) -> RunExit {
         self.calls = self.calls.saturating_add(1);
-        let plan = Planned::find(self.failing.as_slice(), self.calls);
+        let plan = PlannedFailure::find(self.failing.as_slice(), self.calls);
         let words = behind_program(argv);
         let exit = serve(
             self.alloc,
@@ -191,12 +191,12 @@ impl Spawn for MemSpawn {
             plan,
             out,
         );
-        recorded(self.alloc, &mut self.told, argv, exit, out.as_slice())
+        recorded(self.alloc, &mut self.history, argv, exit, out.as_slice())
     }
 
     fn pipe(&mut self, send: &[String], receive: &[String]) -> PipeExit {
         self.calls = self.calls.saturating_add(1);
-        let plan = Planned::find(self.failing.as_slice(), self.calls);
+        let plan = PlannedFailure::find(self.failing.as_slice(), self.calls);
         let sends = behind_program(send);
         let receives = behind_program(receive);
         let exit = serve_pipe(
@@ -207,6 +207,6 @@ impl Spawn for MemSpawn {
             receives,
             plan,
         );
-        recorded_pipe(self.alloc, &mut self.told, send, receive, exit)
+        recorded_pipe(self.alloc, &mut self.history, send, receive, exit)
     }
 }

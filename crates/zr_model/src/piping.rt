@@ -1,7 +1,7 @@
 ghost use Rattle.std.specs.Prelude.{◌≡◌, ◌≢◌, None, true, false, IfOk, MatchOption, is_some, map, string_bytes};
-ghost use Rattle.zr_cmd.specs.declared.forms.Call.TheVariants as call;
+ghost use Rattle.zr_cmd.specs.declared.forms.ZfsCall.TheVariants as call;
 ghost use Rattle.zr_exec.specs.Exits.{HasPipeCause};
-ghost use Rattle.zr_model.specs.Piping.{AreEnds, Finds};
+ghost use Rattle.zr_model.specs.Piping.{AreEnds, FindsOne};
 ghost use Rattle.zr_exec.specs.Serving.{DoesPipe, DoesTransfer, PipeGives};
 ghost use Rattle.zr_model.specs.Ends.{IsVain};
 ghost use Rattle.zr_world.specs.Lookup.{stands};
@@ -51,7 +51,7 @@ fn full_transfer(
     target: Path,
     force: bool,
 ) -> Option<Transfer>
-    ensures { Finds (AreEnds pools.entry.now (call.SendFull source to) (call.Receive target force)) result }
+    ensures { FindsOne (AreEnds pools.entry.now (call.SendFull source to) (call.Receive target force)) result }
 {
     let guid = snap_guid(pools, &source, &to)?;
     Some(Transfer {
@@ -73,7 +73,7 @@ fn increment(
     target: Path,
     force: bool,
 ) -> Option<Transfer>
-    ensures { Finds (AreEnds pools.entry.now (call.SendFrom source mark to) (call.Receive target force)) result }
+    ensures { FindsOne (AreEnds pools.entry.now (call.SendFrom source mark to) (call.Receive target force)) result }
 {
     let from = mark_guid(pools, &source, &mark)?;
     let guid = snap_guid(pools, &source, &to)?;
@@ -89,19 +89,19 @@ fn increment(
 
 /// The transfer onto a target that a call sends. It names no guids, so these are looked up on the source.
 #[tactic(auto, using(crate::proofs::Calls::one_sends_none, crate::proofs::Calls::receive_sends_none))]
-fn transfer_onto(pools: &Pools, send: Call, target: Path, force: bool) -> Option<Transfer>
-    ensures { Finds (AreEnds pools.entry.now send (call.Receive target force)) result }
+fn transfer_onto(pools: &Pools, send: ZfsCall, target: Path, force: bool) -> Option<Transfer>
+    ensures { FindsOne (AreEnds pools.entry.now send (call.Receive target force)) result }
 {
     match send {
-        Call::SendFull(source, to) => full_transfer(pools, source, to, target, force),
-        Call::SendFrom(source, mark, to) => increment(pools, source, mark, to, target, force),
+        ZfsCall::SendFull(source, to) => full_transfer(pools, source, to, target, force),
+        ZfsCall::SendFrom(source, mark, to) => increment(pools, source, mark, to, target, force),
         // Let go by hand: at the end of the arm each variant would be proved again.
-        Call::One(cmd) => {
+        ZfsCall::One(cmd) => {
             drop(cmd);
             drop(target);
             None
         }
-        Call::Receive(path, _) => {
+        ZfsCall::Receive(path, _) => {
             drop(path);
             drop(target);
             None
@@ -110,11 +110,11 @@ fn transfer_onto(pools: &Pools, send: Call, target: Path, force: bool) -> Option
 }
 
 /// The transfer whose ends two calls are.
-fn transfer_of(pools: &Pools, send: Call, receive: Call) -> Option<Transfer>
-    ensures { Finds (AreEnds pools.entry.now send receive) result }
+fn transfer_of(pools: &Pools, send: ZfsCall, receive: ZfsCall) -> Option<Transfer>
+    ensures { FindsOne (AreEnds pools.entry.now send receive) result }
 {
     match receive {
-        Call::Receive(target, force) => transfer_onto(pools, send, target, force),
+        ZfsCall::Receive(target, force) => transfer_onto(pools, send, target, force),
         // Let go by hand: at the end of the arm each variant would be proved again.
         other => {
             drop(other);
@@ -133,7 +133,7 @@ fn read_transfer(
     receive: &[String],
 ) -> Result<Option<Transfer>, NoMemory>
     ensures { IfOk result
-        (Finds (PipeGives (map string_bytes send.now) (map string_bytes receive.now) pools.entry.now)) }
+        (FindsOne (PipeGives (map string_bytes send.now) (map string_bytes receive.now) pools.entry.now)) }
 {
     let Some(send) = read_call(alloc, send)? else {
         return Ok(None);

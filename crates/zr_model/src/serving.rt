@@ -3,16 +3,16 @@ ghost use Rattle.zr_exec.specs.Commands.{command_in};
 ghost use Rattle.zr_exec.specs.Exits.{HasExitCause};
 ghost use Rattle.zr_exec.specs.Listed.{listed_by};
 ghost use Rattle.zr_cmd.specs.Words.{Spells};
-ghost use Rattle.zr_cmd.specs.declared.forms.Call.TheVariants.{One};
-ghost use Rattle.zr_model.specs.Piping.{Finds, is_unspelled};
+ghost use Rattle.zr_cmd.specs.declared.forms.ZfsCall.TheVariants.{One};
+ghost use Rattle.zr_model.specs.Piping.{FindsOne, is_unspelled};
 ghost use Rattle.zr_model.specs.Ends.{AreFree, EndsUnplanned};
 ghost use Rattle.zr_exec.specs.Serving.{Does, DoesWords, IsReply};
-ghost use Rattle.zr_world.specs.Answering.{Fits};
+ghost use Rattle.zr_world.specs.Answering.{IsReplyTo};
 ghost use Rattle.zr_world.specs.Pools.{IsWellFormed};
 ghost use Rattle.zr_command.specs.declared.command.Cmd.{Cmd};
 
 use std::alloc::Global;
-use zr_cmd::{ArgvFault, Call, read_argv};
+use zr_cmd::{ArgvFault, ZfsCall, read_argv};
 use zr_command::{Answer, Cmd, Reply};
 use zr_exec::{LISTING_LIMIT, RunExit};
 use zr_listing::{print_holds, print_sets, print_versions};
@@ -40,7 +40,7 @@ fn counted(faults: &mut u64, exit: RunExit) -> RunExit
 
 /// What a child writes that gives this reply.
 fn print(alloc: Global, cmd: &Cmd, reply: &Reply) -> Result<Vec<u8>, NoMemory>
-    requires fits { Fits cmd.now (Answer.Done reply.now) }
+    requires fits { IsReplyTo cmd.now (Answer.Done reply.now) }
     requires free { AreFree reply.now }
     ensures { IfOk result (λ text. IsReply (listed_by cmd.now) text.items reply.now) }
 {
@@ -91,8 +91,8 @@ fn is_unspelled(fault: &ArgvFault) -> bool
 }
 
 /// The call whose words these are.
-pub(crate) fn read_call(alloc: Global, words: &[String]) -> Result<Option<Call>, NoMemory>
-    ensures { IfOk result (Finds (Spells (map string_bytes words.now))) }
+pub(crate) fn read_call(alloc: Global, words: &[String]) -> Result<Option<ZfsCall>, NoMemory>
+    ensures { IfOk result (FindsOne (Spells (map string_bytes words.now))) }
 {
     match read_argv(alloc, words) {
         Ok(call) => Ok(Some(call)),
@@ -102,11 +102,11 @@ pub(crate) fn read_call(alloc: Global, words: &[String]) -> Result<Option<Call>,
 }
 
 /// The command that a call is. One end of a transfer alone is none.
-fn command_in(call: Option<Call>) -> Option<Cmd>
+fn command_in(call: Option<ZfsCall>) -> Option<Cmd>
     ensures { result ≡ command_in call }
 {
     match call {
-        Some(Call::One(cmd)) => Some(cmd),
+        Some(ZfsCall::One(cmd)) => Some(cmd),
         _ => None,
     }
 }
@@ -114,7 +114,7 @@ fn command_in(call: Option<Call>) -> Option<Cmd>
 /// The command whose words these are.
 #[tactic(auto, using(crate::proofs::Calls::found_command))]
 fn read_command(alloc: Global, words: &[String]) -> Result<Option<Cmd>, NoMemory>
-    ensures { IfOk result (Finds (λ (given : Cmd). Spells (map string_bytes words.now) (One given))) }
+    ensures { IfOk result (FindsOne (λ (given : Cmd). Spells (map string_bytes words.now) (One given))) }
 {
     Ok(command_in(read_call(alloc, words)?))
 }

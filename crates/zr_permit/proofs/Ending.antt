@@ -17,7 +17,7 @@ use Rattle.zr_permit.specs.declared.told.Told.TheVariants as told
 use Rattle.zr_permit.specs.Result.{capped, ended_as, is_child_fault, ResultOf, WantsMemory}
 use Rattle.zr_permit.specs.Sight.{ActedBy, Follows, HasEnded, HasJustBegun, IsAtWork, Sight, Went}
 use Rattle.zr_permit.specs.Transcript.{GoesOn, Transcript, Turn}
-use Rattle.zr_permit.specs.Turned.{HasTurned, Records, RecordsRun, RecordsUnit, told_of, Turns}
+use Rattle.zr_permit.specs.Turned.{HasTurned, IsRecordOf, IsRecordAfter, IsRecordOfUnit, told_of, Turns}
 
 -- the last of some turns
 last-turn : (turns : Transcript) (turn : Turn) → slice_get (turns ++ turn ∷ []) (length turns) ≡ Some turn
@@ -148,12 +148,12 @@ ended-on first before now ended went follows has =
     }
 
 -- the record of a command that was not done, once the unit has ended by it
-pub records-end : (base now : Option (List Entry)) (before after : Transcript) (command : Cmd) (given : Told) (number : ℕ) → given ≢ told.Done → RecordsRun base now before after command given → RecordsUnit base now after (ended_as number given)
+pub records-end : (base now : Option (List Entry)) (before after : Transcript) (command : Cmd) (given : Told) (number : ℕ) → given ≢ told.Done → IsRecordAfter base now before after command given → IsRecordOfUnit base now after (ended_as number given)
 records-end base now before after command told.Done number undone records = absurd (undone refl)
 records-end base now before after command told.Failed number undone records = records
 records-end base now before after command (told.Garbled line) number undone records = records
 records-end base now before after command told.NoMemory number undone (inl same) =
-    let On : Transcript → Type 0 = λ ts. Records base now ts in
+    let On : Transcript → Type 0 = λ ts. IsRecordOf base now ts in
     inl (subst On (sym same.0) same.1)
 records-end base now before after command told.NoMemory number undone (inr cut) =
     inr (record { before = before; command = command; turns_are = cut.0; cut = cut.1 })
@@ -165,13 +165,13 @@ fault-is (told.Garbled line) number e = cc
 fault-is told.NoMemory number e = cc
 
 -- a command that was not done ends its unit
-pub ended-undone : (before now : Sight) (command : Cmd) (given : Told) (ended : Outcome) → IsAtWork before → Went before now → Turns before.turns now.turns command given → (given ≡ told.Failed → Rose before.faults now.faults) → ((base : Option (List Entry)) → Records base before.told before.turns → RecordsRun base now.told before.turns now.turns command given) → given ≢ told.Done → (given ≡ told.Failed → GoesOn before.unit.work command answer.Failed → ⊥) → ended ≡ ended_as (length now.turns) given → HasEnded before now ended
+pub ended-undone : (before now : Sight) (command : Cmd) (given : Told) (ended : Outcome) → IsAtWork before → Went before now → Turns before.turns now.turns command given → (given ≡ told.Failed → Rose before.faults now.faults) → ((base : Option (List Entry)) → IsRecordOf base before.history before.turns → IsRecordAfter base now.history before.turns now.turns command given) → given ≢ told.Done → (given ≡ told.Failed → GoesOn before.unit.work command answer.Failed → ⊥) → ended ≡ ended_as (length now.turns) given → HasEnded before now ended
 ended-undone before now command given ended at_work went turns rose records undone ends is =
     let Ends : Outcome → Type 0 = λ o. HasEnded before now o in
     subst Ends (sym is) (record {
       went = went;
       result = ended-result before.jobs before.unit before.turns now.turns command given at_work.goes_on turns undone ends;
-      records = λ base is_record. records-end base now.told before.turns now.turns command given (length now.turns) undone (records base is_record);
+      records = λ base is_record. records-end base now.history before.turns now.turns command given (length now.turns) undone (records base is_record);
       rose = λ fault. rose (fault-is given (length now.turns) fault);
     })
 

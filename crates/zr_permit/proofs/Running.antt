@@ -16,17 +16,17 @@ use Rattle.zr_permit.specs.Result.{is_out_of_memory, ResultOf, WantsMemory}
 use Rattle.zr_permit.specs.Runs.{EndsAs, GoesOnToTheLast, HasRun, Ran}
 use Rattle.zr_permit.specs.Sight.{HasEnded, HasJustBegun, Sight}
 use Rattle.zr_permit.specs.Transcript.{GoesOn, Legal, LegalAfter, Transcript, Turn}
-use Rattle.zr_permit.specs.Turned.{calls, Records, RecordsShort, RecordsUnit}
+use Rattle.zr_permit.specs.Turned.{calls, IsRecordOf, RecordsShort, IsRecordOfUnit}
 use Rattle.zr_permit.proofs.Legality.{legal-answered, legal-front}
 
 -- what a record is after a begin and some calls
-after-begin : (before now : Option (List Entry)) (unit : Unit) (run : ℕ) (turns : Transcript) → Records (appended before (Begin unit run ∷ [])) now turns → now ≡ appended before (Begin unit run ∷ calls turns)
+after-begin : (before now : Option (List Entry)) (unit : Unit) (run : ℕ) (turns : Transcript) → IsRecordOf (appended before (Begin unit run ∷ [])) now turns → now ≡ appended before (Begin unit run ∷ calls turns)
 after-begin None now unit run turns records = records
 after-begin (Some entries) now unit run turns records =
     records ∙ ap Some (append_assoc entries (Begin unit run ∷ []) (calls turns))
 
 -- a record with no calls yet
-records-none : (base : Option (List Entry)) → Records base base []
+records-none : (base : Option (List Entry)) → IsRecordOf base base []
 records-none None = refl
 records-none (Some entries) = ap Some (sym (append-nil entries))
 
@@ -63,7 +63,7 @@ RunWith jobs unit run before now ended Known =
     (ran : HasRun jobs unit run before now ended) × (is_out_of_memory ended ≡ false → Known ran.turns)
 
 -- where memory was refused, the record may have the last call with another answer, or lack it
-short-run : (jobs : JobSet) (unit : Unit) (run : ℕ) (before now : Option (List Entry)) (turns : Transcript) → Legal jobs unit turns → WantsMemory unit.work turns → RecordsUnit (appended before (Begin unit run ∷ [])) now turns outcome.NoMemory → HasRun jobs unit run before now outcome.NoMemory
+short-run : (jobs : JobSet) (unit : Unit) (run : ℕ) (before now : Option (List Entry)) (turns : Transcript) → Legal jobs unit turns → WantsMemory unit.work turns → IsRecordOfUnit (appended before (Begin unit run ∷ [])) now turns outcome.NoMemory → HasRun jobs unit run before now outcome.NoMemory
 short-run jobs unit run before now turns legal wants (inl records) = record {
   turns = turns;
   legal = legal;
@@ -93,7 +93,7 @@ short-run jobs unit run before now turns legal wants (inr short) =
 not-short : true ≡ false → ⊥
 not-short e = cc
 
-has-run : (jobs : JobSet) (unit : Unit) (run : ℕ) (before now : Option (List Entry)) (turns : Transcript) (ended : Outcome) (Known : Transcript → Type 0) → Legal jobs unit turns → ResultOf jobs unit turns ended → RecordsUnit (appended before (Begin unit run ∷ [])) now turns ended → Known turns → RunWith jobs unit run before now ended Known
+has-run : (jobs : JobSet) (unit : Unit) (run : ℕ) (before now : Option (List Entry)) (turns : Transcript) (ended : Outcome) (Known : Transcript → Type 0) → Legal jobs unit turns → ResultOf jobs unit turns ended → IsRecordOfUnit (appended before (Begin unit run ∷ [])) now turns ended → Known turns → RunWith jobs unit run before now ended Known
 has-run jobs unit run before now turns outcome.NoMemory Known legal result records known =
     (short-run jobs unit run before now turns legal result records, λ ample. absurd (not-short ample))
 has-run jobs unit run before now turns other Known legal result records known = (
@@ -107,21 +107,21 @@ has-run jobs unit run before now turns other Known legal result records known = 
 )
 
 -- a unit that began and ended has run, and what is known of its transcript
-pub ran-with : (jobs : JobSet) (unit : Unit) (run : ℕ) (before : Option (List Entry)) (begun now : Sight) (ended : Outcome) (Known : Transcript → Type 0) → begun.jobs ≡ jobs → begun.unit ≡ unit → begun.told ≡ appended before (Begin unit run ∷ []) → HasJustBegun begun → Legal now.jobs now.unit now.turns → HasEnded begun now ended → Known now.turns → RunWith jobs unit run before now.told ended Known
+pub ran-with : (jobs : JobSet) (unit : Unit) (run : ℕ) (before : Option (List Entry)) (begun now : Sight) (ended : Outcome) (Known : Transcript → Type 0) → begun.jobs ≡ jobs → begun.unit ≡ unit → begun.history ≡ appended before (Begin unit run ∷ []) → HasJustBegun begun → Legal now.jobs now.unit now.turns → HasEnded begun now ended → Known now.turns → RunWith jobs unit run before now.history ended Known
 ran-with jobs unit run before begun now ended Known same_jobs same_unit begins fresh legal has known =
     let legal_jobs : JobSet → Type 0 = λ j. Legal j now.unit now.turns in
     let legal_unit : Unit → Type 0 = λ u. Legal jobs u now.turns in
     let result_jobs : JobSet → Type 0 = λ j. ResultOf j begun.unit now.turns ended in
     let result_unit : Unit → Type 0 = λ u. ResultOf jobs u now.turns ended in
-    let from : Option (List Entry) → Type 0 = λ base. RecordsUnit base now.told now.turns ended in
-    let empty : Transcript → Type 0 = λ ts. Records begun.told begun.told ts in
-    has-run jobs unit run before now.told now.turns ended Known
+    let from : Option (List Entry) → Type 0 = λ base. IsRecordOfUnit base now.history now.turns ended in
+    let empty : Transcript → Type 0 = λ ts. IsRecordOf begun.history begun.history ts in
+    has-run jobs unit run before now.history now.turns ended Known
     (subst legal_unit (has.went.same_unit ∙ same_unit) (subst legal_jobs (has.went.same_jobs ∙ same_jobs) legal))
     (subst result_unit same_unit (subst result_jobs same_jobs has.result))
-    (subst from begins (has.records begun.told (subst empty (sym fresh.no_turns) (records-none begun.told))))
+    (subst from begins (has.records begun.history (subst empty (sym fresh.no_turns) (records-none begun.history))))
     known
 
 -- a unit that began and ended has run
-pub ran-begun : (jobs : JobSet) (unit : Unit) (run : ℕ) (before : Option (List Entry)) (begun now : Sight) (ended : Outcome) → begun.jobs ≡ jobs → begun.unit ≡ unit → begun.told ≡ appended before (Begin unit run ∷ []) → HasJustBegun begun → Legal now.jobs now.unit now.turns → HasEnded begun now ended → Ran jobs unit run before now.told ended
+pub ran-begun : (jobs : JobSet) (unit : Unit) (run : ℕ) (before : Option (List Entry)) (begun now : Sight) (ended : Outcome) → begun.jobs ≡ jobs → begun.unit ≡ unit → begun.history ≡ appended before (Begin unit run ∷ []) → HasJustBegun begun → Legal now.jobs now.unit now.turns → HasEnded begun now ended → Ran jobs unit run before now.history ended
 ran-begun jobs unit run before begun now ended same_jobs same_unit begins fresh legal has =
     inl (ran-with jobs unit run before begun now ended (λ ts. Legal now.jobs now.unit now.turns) same_jobs same_unit begins fresh legal has legal).0

@@ -10,7 +10,7 @@ use Rattle.zr_jobs.specs.declared.job.JobSet.{JobSet}
 use Rattle.zr_permit.specs.declared.guarded.Guarded.{Guarded}
 use Rattle.zr_permit.specs.Result.{is_child_fault, ResultOf}
 use Rattle.zr_permit.specs.Transcript.{GoesOn, Transcript}
-use Rattle.zr_permit.specs.Turned.{Records, RecordsUnit}
+use Rattle.zr_permit.specs.Turned.{IsRecordOf, IsRecordOfUnit}
 
 -- what a contract sees of a unit at work: its jobs, the unit, its turns, whether memory was refused to it, and what its
 -- runner shows: the record, the pools and the count of faults
@@ -19,7 +19,7 @@ pub record Sight : Type 0 where
   pub unit : Unit
   pub turns : Transcript
   pub out_of_memory : Bool
-  pub told : Option (List Entry)
+  pub history : Option (List Entry)
   pub pools : Option Pools
   pub faults : ℕ
 
@@ -29,9 +29,9 @@ sight ghosts unit = record {
   unit = unit.log.unit;
   turns = unit.log.turns;
   out_of_memory = unit.out_of_memory;
-  told = ghosts.told unit.z.now;
-  pools = ghosts.pools unit.z.now;
-  faults = ghosts.faults unit.z.now;
+  history = ghosts.history unit.runner.now;
+  pools = ghosts.pools unit.runner.now;
+  faults = ghosts.faults unit.runner.now;
 }
 
 -- the unit has given no command
@@ -63,12 +63,12 @@ pub record Went (before now : Sight) : Type 0 where
 -- the runner's record goes on with the turns
 abbrev pub Follows : Sight → Sight → Type 0
 Follows before now =
-    (base : Option (List Entry)) → Records base before.told before.turns → Records base now.told now.turns
+    (base : Option (List Entry)) → IsRecordOf base before.history before.turns → IsRecordOf base now.history now.turns
 
 -- the unit has ended with this outcome
 pub record HasEnded (before now : Sight) (ended : Outcome) : Type 0 where
   pub went : Went before now
   pub result : ResultOf before.jobs before.unit now.turns ended
   pub records :
-      (base : Option (List Entry)) → Records base before.told before.turns → RecordsUnit base now.told now.turns ended
+      (base : Option (List Entry)) → IsRecordOf base before.history before.turns → IsRecordOfUnit base now.history now.turns ended
   pub rose : is_child_fault ended ≡ true → Rose before.faults now.faults

@@ -11,7 +11,7 @@ use zr_world::Zfs;
 pub struct Guarded<'a, Z: Zfs> {
     alloc: Global,
     log: Log<'a>,
-    z: &'a mut Z,
+    runner: &'a mut Z,
     out_of_memory: bool,
 }
 
@@ -19,7 +19,7 @@ pub struct Guarded<'a, Z: Zfs> {
 #[derive(Drop)]
 pub struct Unbegun<'a, Z> {
     pub unit: Unit,
-    pub z: &'a mut Z,
+    pub runner: &'a mut Z,
 }
 
 impl<'a, Z: Zfs> Guarded<'a, Z> {
@@ -29,7 +29,7 @@ impl<'a, Z: Zfs> Guarded<'a, Z> {
     ghost use Rattle.zr_permit.specs.Sight.{HasEnded, HasJustBegun, IsAtWork, sight, Went};
     ghost use Rattle.zr_permit.specs.Transcript.{Allowed, Legal};
     ghost use Rattle.std.specs.Option.{option_copied};
-    ghost use Rattle.zr_permit.specs.Turned.{last_answer, Records, RecordsRun, Turns, is_short};
+    ghost use Rattle.zr_permit.specs.Turned.{last_answer, IsRecordOf, IsRecordAfter, Turns, is_no_memory};
     ghost use Rattle.zr_world.specs.Answering.{appended};
     ghost use Rattle.zr_command.specs.declared.command.Entry.{Entry};
     ghost use Rattle.zr_command.specs.declared.command.Entry.TheVariants.{Begin};
@@ -41,30 +41,30 @@ impl<'a, Z: Zfs> Guarded<'a, Z> {
         unit: Unit,
         run: u64,
         jobs: &'a JobSet,
-        z: &'a mut Z,
+        runner: &'a mut Z,
     ) -> Result<Guarded<'a, Z>, Unbegun<'a, Z>>
         requires { IsOfFile jobs.now unit }
         ensures jobs { IfOk result (λ g. (sight Z.Zfs g).jobs ≡ jobs.now) }
         ensures unit { IfOk result (λ g. (sight Z.Zfs g).unit ≡ unit) }
         ensures begun { IfOk result (λ g. HasJustBegun (sight Z.Zfs g)) }
-        ensures faults { IfOk result (λ g. (sight Z.Zfs g).faults ≡ Z.faults z.entry.now) }
-        ensures pools { IfOk result (λ g. (sight Z.Zfs g).pools ≡ Z.pools z.entry.now) }
-        ensures told { IfOk result (λ g. (sight Z.Zfs g).told ≡ appended (Z.told z.entry.now) (Begin unit run ∷ [])) }
-        ensures runner { IfOk result (λ g. g.z.ghost_name ≡ z.entry.ghost_name) }
+        ensures faults { IfOk result (λ g. (sight Z.Zfs g).faults ≡ Z.faults runner.entry.now) }
+        ensures pools { IfOk result (λ g. (sight Z.Zfs g).pools ≡ Z.pools runner.entry.now) }
+        ensures told { IfOk result (λ g. (sight Z.Zfs g).history ≡ appended (Z.history runner.entry.now) (Begin unit run ∷ [])) }
+        ensures same_runner { IfOk result (λ g. g.runner.ghost_name ≡ runner.entry.ghost_name) }
         ensures unbegun { IfErr result (λ u. u.unit ≡ unit) }
-        ensures unbegun_faults { IfErr result (λ u. Z.faults u.z.now ≡ Z.faults z.entry.now) }
-        ensures unbegun_pools { IfErr result (λ u. Z.pools u.z.now ≡ Z.pools z.entry.now) }
-        ensures unbegun_told { IfErr result (λ u. Z.told u.z.now ≡ Z.told z.entry.now) }
-        ensures unbegun_runner { IfErr result (λ u. u.z.ghost_name ≡ z.entry.ghost_name) }
+        ensures unbegun_faults { IfErr result (λ u. Z.faults u.runner.now ≡ Z.faults runner.entry.now) }
+        ensures unbegun_pools { IfErr result (λ u. Z.pools u.runner.now ≡ Z.pools runner.entry.now) }
+        ensures unbegun_told { IfErr result (λ u. Z.history u.runner.now ≡ Z.history runner.entry.now) }
+        ensures unbegun_same_runner { IfErr result (λ u. u.runner.ghost_name ≡ runner.entry.ghost_name) }
     {
-        match z.begin(&unit, run) {
+        match runner.begin(&unit, run) {
             Ok(()) => Ok(Guarded {
                 alloc,
                 log: Log::new(alloc, jobs, unit),
-                z,
+                runner,
                 out_of_memory: false,
             }),
-            Err(_) => Err(Unbegun { unit, z }),
+            Err(_) => Err(Unbegun { unit, runner }),
         }
     }
 
@@ -127,11 +127,11 @@ impl<'a, Z: Zfs> Guarded<'a, Z> {
         requires memory { (sight Z.Zfs self.old).out_of_memory ≡ false }
         ensures went { Went (sight Z.Zfs self.old) (sight Z.Zfs self.new) }
         ensures turns { Turns (sight Z.Zfs self.old).turns (sight Z.Zfs self.new).turns cmd result }
-        ensures memory { (sight Z.Zfs self.new).out_of_memory ≡ is_short result }
+        ensures memory { (sight Z.Zfs self.new).out_of_memory ≡ is_no_memory result }
         ensures rose { result ≡ Told.Failed → Rose (sight Z.Zfs self.old).faults (sight Z.Zfs self.new).faults }
-        ensures records { (base : Option (List Entry)) → Records base (sight Z.Zfs self.old).told (sight Z.Zfs self.old).turns →
-            RecordsRun base (sight Z.Zfs self.new).told (sight Z.Zfs self.old).turns (sight Z.Zfs self.new).turns cmd result }
-        ensures runner { self.new.z.ghost_name ≡ self.old.z.ghost_name }
+        ensures records { (base : Option (List Entry)) → IsRecordOf base (sight Z.Zfs self.old).history (sight Z.Zfs self.old).turns →
+            IsRecordAfter base (sight Z.Zfs self.new).history (sight Z.Zfs self.old).turns (sight Z.Zfs self.new).turns cmd result }
+        ensures same_runner { self.new.runner.ghost_name ≡ self.old.runner.ghost_name }
     {
         if self.log.make_room().is_err() {
             self.out_of_memory = true;
@@ -139,24 +139,24 @@ impl<'a, Z: Zfs> Guarded<'a, Z> {
             drop(cmd);
             return Told::NoMemory;
         }
-        let answer = self.z.run(&cmd);
+        let answer = self.runner.run(&cmd);
         let told = Told::of(&answer);
-        self.out_of_memory = told.is_short();
+        self.out_of_memory = told.is_no_memory();
         self.log.note(cmd, answer);
         told
     }
 
     /// The unit has ended: its runner is given back.
     pub fn end(self) -> &'a mut Z
-        ensures same { result.now ≡ self.entry.z.now }
-        ensures runner { result.ghost_name ≡ self.entry.z.ghost_name }
+        ensures same { result.now ≡ self.entry.runner.now }
+        ensures same_runner { result.ghost_name ≡ self.entry.runner.ghost_name }
     {
         let Guarded {
-            z,
+            runner,
             log: _,
             alloc: _,
             out_of_memory: _,
         } = self;
-        z
+        runner
     }
 }

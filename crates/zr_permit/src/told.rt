@@ -12,7 +12,7 @@ pub enum Told {
 
 impl Told {
     ghost use Rattle.std.specs.Prelude.{◌≡◌};
-    ghost use Rattle.zr_permit.specs.Turned.{is_short, told_of};
+    ghost use Rattle.zr_permit.specs.Turned.{is_no_memory, told_of};
 
     pub fn of(answer: &Answer) -> Told
         ensures { result ≡ told_of answer.now }
@@ -25,8 +25,8 @@ impl Told {
         }
     }
 
-    pub fn is_short(self) -> bool
-        ensures { result ≡ is_short self }
+    pub fn is_no_memory(self) -> bool
+        ensures { result ≡ is_no_memory self }
     {
         matches!(self, Told::NoMemory)
     }

@@ -19,7 +19,7 @@ use Rattle.std.specs.Prelude.{nat_eq}
 use Rattle.zr_command.specs.declared.command.Reply.{Reply}
 use Rattle.zr_command.specs.declared.command.Reply.TheVariants as reply
 use Rattle.zr_command.specs.declared.version.VersionRow.{VersionRow}
-use Rattle.zr_world.specs.Answering.{Fits}
+use Rattle.zr_world.specs.Answering.{IsReplyTo}
 use Rattle.zr_command.specs.Listings.{IsVersionList}
 use Rattle.zr_permit.proofs.Dooming.{doomed-differ}
 use Rattle.zr_jobs.specs.declared.job.JobSet.{JobSet}
@@ -29,7 +29,7 @@ use Rattle.zr_jobs.specs.Jobs.{job_at, rules_of}
 use Rattle.zr_permit.specs.Keep.{doomed}
 use Rattle.zr_permit.specs.Result.{capped, ended_as, HasPruned, is_done_destroy, is_failed_destroy}
 use Rattle.zr_permit.specs.Transcript.{Allowed, doomed_in, GoesOn, listed, Permits, Transcript, Turn}
-use Rattle.zr_permit.specs.Turned.{HasTurned, Records, RecordsRun, told_of, Turns}
+use Rattle.zr_permit.specs.Turned.{HasTurned, IsRecordOf, IsRecordAfter, told_of, Turns}
 use Rattle.zr_permit.specs.Sight.{Follows, HasEnded, HasJustBegun, Sight, Went}
 use Rattle.zr_permit.proofs.Ending.{begun-at-work, ended-on, ended-undone}
 use Rattle.zr_permit.proofs.Listing.{listed-more}
@@ -222,13 +222,13 @@ begun jobs unit path names rows turns is list turns_are names_are =
 pub pruning-begun : (jobs : JobSet) (unit : Unit) (path : List ℕ) (names : List (List ℕ)) (turns : Transcript) → unit.work ≡ work.PruneSource path → HasTurned [] turns (cmd.Versions path) told.Done → names ≡ doomed_in jobs unit.job (listed path turns) → Pruning jobs unit path names [] turns
 pruning-begun jobs unit path names turns is turned names_are =
     by-answer turned.got turned.told_is turned.shape turned.turns_are where
-      by-reply : (r : Reply) → Fits (cmd.Versions path) (answer.Done r) → turns ≡ (cmd.Versions path, answer.Done r) ∷ [] → Pruning jobs unit path names [] turns
+      by-reply : (r : Reply) → IsReplyTo (cmd.Versions path) (answer.Done r) → turns ≡ (cmd.Versions path, answer.Done r) ∷ [] → Pruning jobs unit path names [] turns
       by-reply (reply.Versions rows) fits turns_are = begun jobs unit path names rows turns is fits turns_are names_are
       by-reply (reply.Sets rows) fits turns_are = absurd fits
       by-reply (reply.Holds tags) fits turns_are = absurd fits
       by-reply reply.Nothing fits turns_are = absurd fits
 
-      by-answer : (a : Answer) → told.Done ≡ told_of a → Fits (cmd.Versions path) a → turns ≡ (cmd.Versions path, a) ∷ [] → Pruning jobs unit path names [] turns
+      by-answer : (a : Answer) → told.Done ≡ told_of a → IsReplyTo (cmd.Versions path) a → turns ≡ (cmd.Versions path, a) ∷ [] → Pruning jobs unit path names [] turns
       by-answer (answer.Done r) e fits turns_are = by-reply r fits turns_are
       by-answer answer.Failed e fits turns_are = cc
       by-answer (answer.Garbled line) e fits turns_are = cc
@@ -252,20 +252,20 @@ pruned-ended before now path names place destroyed busy went follows pruning all
   rose = λ fault. absurd (no-fault fault);
 }
 
-short-undone : told.NoMemory ≢ told.Done
-short-undone e = cc
+memory-undone : told.NoMemory ≢ told.Done
+memory-undone e = cc
 
 not-failing : told.NoMemory ≡ told.Failed → ⊥
 not-failing e = cc
 
 -- and where memory was refused to a destroy
-pub destroys-ended : (first before now : Sight) (path : List ℕ) (names given : List (List ℕ)) (command : Cmd) → Went first before → Follows first before → before.out_of_memory ≡ false → IsPruning before path names given → Went before now → Turns before.turns now.turns command told.NoMemory → ((base : Option (List Entry)) → Records base before.told before.turns → RecordsRun base now.told before.turns now.turns command told.NoMemory) → HasEnded first now outcome.NoMemory
+pub destroys-ended : (first before now : Sight) (path : List ℕ) (names given : List (List ℕ)) (command : Cmd) → Went first before → Follows first before → before.out_of_memory ≡ false → IsPruning before path names given → Went before now → Turns before.turns now.turns command told.NoMemory → ((base : Option (List Entry)) → IsRecordOf base before.history before.turns → IsRecordAfter base now.history before.turns now.turns command told.NoMemory) → HasEnded first now outcome.NoMemory
 destroys-ended first before now path names given command went follows memory pruning more turns records =
     ended-on first before now outcome.NoMemory went follows
-    (ended-undone before now command told.NoMemory outcome.NoMemory (record { with_memory = memory; goes_on = pruning.goes_on }) more turns (λ failed. absurd (not-failing failed)) records short-undone (λ failed. absurd (not-failing failed)) refl)
+    (ended-undone before now command told.NoMemory outcome.NoMemory (record { with_memory = memory; goes_on = pruning.goes_on }) more turns (λ failed. absurd (not-failing failed)) records memory-undone (λ failed. absurd (not-failing failed)) refl)
 
 -- the unit has ended where its listing was not done
-pub listing-ended : (before now : Sight) (path : List ℕ) (given : Told) (ended : Outcome) → HasJustBegun before → before.unit.work ≡ work.PruneSource path → Went before now → Turns before.turns now.turns (cmd.Versions path) given → (given ≡ told.Failed → Rose before.faults now.faults) → ((base : Option (List Entry)) → Records base before.told before.turns → RecordsRun base now.told before.turns now.turns (cmd.Versions path) given) → given ≢ told.Done → ended ≡ ended_as (length now.turns) given → HasEnded before now ended
+pub listing-ended : (before now : Sight) (path : List ℕ) (given : Told) (ended : Outcome) → HasJustBegun before → before.unit.work ≡ work.PruneSource path → Went before now → Turns before.turns now.turns (cmd.Versions path) given → (given ≡ told.Failed → Rose before.faults now.faults) → ((base : Option (List Entry)) → IsRecordOf base before.history before.turns → IsRecordAfter base now.history before.turns now.turns (cmd.Versions path) given) → given ≢ told.Done → ended ≡ ended_as (length now.turns) given → HasEnded before now ended
 listing-ended before now path given ended begun is went turns rose records undone ended_is =
     ended-undone before now (cmd.Versions path) given ended (begun-at-work before begun) went turns rose records undone (λ failed. listing-ends before.unit.work path path is) ended_is
 

@@ -19,7 +19,7 @@ use Rattle.zr_command.specs.declared.version.SetRow.{SetRow}
 use Rattle.zr_command.specs.declared.version.VersionName.{VersionName}
 use Rattle.zr_command.specs.declared.version.VersionName.TheVariants.{Snap, Mark}
 use Rattle.zr_command.specs.declared.version.VersionRow.{VersionRow}
-use Rattle.zr_world.specs.Answering.{Fits}
+use Rattle.zr_world.specs.Answering.{IsReplyTo}
 use Rattle.zr_known.specs.declared.known.Known.{Known}
 use Rattle.zr_jobs.specs.declared.pair.Pair.{Pair}
 use Rattle.zr_known.specs.declared.known.Presence.TheVariants.{Absent, Unlisted}
@@ -41,11 +41,11 @@ none-where-absent None absent = refl
 none-where-absent (Some row) absent = cc
 
 -- the datasets were listed first
-pub listed-sets : (pair : Pair) (knew known : Known) (given : Reply) → knew ≡ nothing_known → Fits cmd.Sets (Done given) → known ≡ told_by pair cmd.Sets (Done given) knew → HasListedSets pair known
+pub listed-sets : (pair : Pair) (knew known : Known) (given : Reply) → knew ≡ nothing_known → IsReplyTo cmd.Sets (Done given) → known ≡ told_by pair cmd.Sets (Done given) knew → HasListedSets pair known
 listed-sets pair knew known given fresh shape is =
     by given shape (is ∙ ap (told_by pair cmd.Sets (Done given)) fresh)
   where
-    by : (given : Reply) → Fits cmd.Sets (Done given) → known ≡ told_by pair cmd.Sets (Done given) nothing_known → HasListedSets pair known
+    by : (given : Reply) → IsReplyTo cmd.Sets (Done given) → known ≡ told_by pair cmd.Sets (Done given) nothing_known → HasListedSets pair known
     by (reply.Sets rows) shape is =
         subst (HasListedSets pair) (sym is) (record {
           sets = rows;
@@ -72,17 +72,17 @@ shown-there pair known sets shows absent =
 -- what a command tells, where it is this one
 pub record Tells (pair : Pair) (command : Cmd) (knew known : Known) : Type 0 where
   pub given : Reply
-  pub shape : Fits command (Done given)
+  pub shape : IsReplyTo command (Done given)
   pub known_is : known ≡ told_by pair command (Done given) knew
 
-pub tells-as : (pair : Pair) (command other : Cmd) (knew known : Known) (given : Reply) → command ≡ other → Fits command (Done given) → known ≡ told_by pair command (Done given) knew → Tells pair other knew known
+pub tells-as : (pair : Pair) (command other : Cmd) (knew known : Known) (given : Reply) → command ≡ other → IsReplyTo command (Done given) → known ≡ told_by pair command (Done given) knew → Tells pair other knew known
 tells-as pair command other knew known given same shape is =
     subst (λ (c : Cmd). Tells pair c knew known) same (record { given = given; shape = shape; known_is = is })
 
 -- then the target, where it is there
 pub listed-target : (pair : Pair) (knew known : Known) → HasListedSets pair knew → ShowsSet knew pair.target → pair.target ≢ pair.source → Tells pair (cmd.Versions pair.target) knew known → HasListedSets pair known
 listed-target pair knew known sets shows apart told = by told.given told.shape told.known_is where
-  by : (given : Reply) → Fits (cmd.Versions pair.target) (Done given) → known ≡ told_by pair (cmd.Versions pair.target) (Done given) knew → HasListedSets pair known
+  by : (given : Reply) → IsReplyTo (cmd.Versions pair.target) (Done given) → known ≡ told_by pair (cmd.Versions pair.target) (Done given) knew → HasListedSets pair known
   by (reply.Versions rows) shape is =
       subst (HasListedSets pair) (sym (is ∙ target-listed pair rows knew apart)) (record {
         sets = sets.sets;
@@ -97,7 +97,7 @@ listed-target pair knew known sets shows apart told = by told.given told.shape t
 -- a target that was listed was listed
 pub target-told : (pair : Pair) (knew known : Known) → pair.target ≢ pair.source → Tells pair (cmd.Versions pair.target) knew known → HasListedTarget pair known
 target-told pair knew known apart told = by told.given told.shape told.known_is where
-  by : (given : Reply) → Fits (cmd.Versions pair.target) (Done given) → known ≡ told_by pair (cmd.Versions pair.target) (Done given) knew → HasListedTarget pair known
+  by : (given : Reply) → IsReplyTo (cmd.Versions pair.target) (Done given) → known ≡ told_by pair (cmd.Versions pair.target) (Done given) knew → HasListedTarget pair known
   by (reply.Versions rows) shape is =
       subst (HasListedTarget pair) (sym (is ∙ target-listed pair rows knew apart)) (λ shows. refl)
   by (reply.Sets rows) shape is = elim shape [ ]
@@ -143,7 +143,7 @@ pub record HasAsked (side : Role) (name : List ℕ) (knew known : Known) : Type 
 
 pub has-asked : (side : Role) (pair : Pair) (name : List ℕ) (knew known : Known) → pair.target ≢ pair.source → Tells pair (cmd.Holds (path_at side pair) name) knew known → HasAsked side name knew known
 has-asked side pair name knew known apart told = by told.given told.shape told.known_is where
-  by : (given : Reply) → Fits (cmd.Holds (path_at side pair) name) (Done given) → known ≡ told_by pair (cmd.Holds (path_at side pair) name) (Done given) knew → HasAsked side name knew known
+  by : (given : Reply) → IsReplyTo (cmd.Holds (path_at side pair) name) (Done given) → known ≡ told_by pair (cmd.Holds (path_at side pair) name) (Done given) knew → HasAsked side name knew known
   by (reply.Holds tags) shape is =
       let both = holds-told side pair name tags knew known apart is in
       record {

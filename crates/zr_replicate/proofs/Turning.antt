@@ -25,7 +25,7 @@ use Rattle.zr_known.specs.Straight.{has_listed, is_straight, IsFinished}
 use Rattle.zr_permit.specs.Result.{capped, ended_as, HasReplicated, is_done_transfer}
 use Rattle.zr_permit.specs.Sight.{HasEnded, HasJustBegun, Went}
 use Rattle.zr_permit.specs.Transcript.{GoesOn, Turn}
-use Rattle.zr_permit.specs.Turned.{HasTurned, Records, RecordsRun, told_of, Turns}
+use Rattle.zr_permit.specs.Turned.{HasTurned, IsRecordOf, IsRecordAfter, told_of, Turns}
 use Rattle.zr_permit.proofs.Ending.{at-work-more, begun-at-work, ended-on, ended-undone, went-nowhere, went-on}
 use Rattle.zr_known.proofs.Knowing.{known-more}
 use Rattle.zr_replicate.specs.Listing.{OnlyLists}
@@ -59,7 +59,7 @@ ends : (unit_work : Work) (path : List ℕ) (command : Cmd) → unit_work ≡ wo
 ends unit_work path command is goes = subst (λ (w : Work). GoesOn w command answer.Failed) is goes
 
 -- a command that was not done ends the unit
-pub ended-turn : (pair : Pair) (before now : Progress) (command : Cmd) (given : Told) (outcome : Outcome) → AtWork pair before → now.lent ≡ before.lent → Went before.unit now.unit → Turns before.unit.turns now.unit.turns command given → (given ≡ told.Failed → Rose before.unit.faults now.unit.faults) → ((base : Option (List Entry)) → Records base before.unit.told before.unit.turns → RecordsRun base now.unit.told before.unit.turns now.unit.turns command given) → given ≢ told.Done → outcome ≡ ended_as (length now.unit.turns) given → HasEndedAs before now outcome
+pub ended-turn : (pair : Pair) (before now : Progress) (command : Cmd) (given : Told) (outcome : Outcome) → AtWork pair before → now.lent ≡ before.lent → Went before.unit now.unit → Turns before.unit.turns now.unit.turns command given → (given ≡ told.Failed → Rose before.unit.faults now.unit.faults) → ((base : Option (List Entry)) → IsRecordOf base before.unit.history before.unit.turns → IsRecordAfter base now.unit.history before.unit.turns now.unit.turns command given) → given ≢ told.Done → outcome ≡ ended_as (length now.unit.turns) given → HasEndedAs before now outcome
 ended-turn pair before now command given outcome at same went turns rose records undone is = record {
   ended = ended-undone before.unit now.unit command given outcome at.at_work went turns rose records undone (λ failed. ends before.unit.unit.work pair.source command at.work_is) is;
   same_lent = same;
@@ -71,8 +71,8 @@ failed-undone e = cc
 pub garbled-undone : (line : ℕ) → told.Garbled line ≢ told.Done
 garbled-undone line e = cc
 
-pub short-undone : told.NoMemory ≢ told.Done
-short-undone e = cc
+pub memory-undone : told.NoMemory ≢ told.Done
+memory-undone e = cc
 
 -- what goes on goes on
 pub goes-on-with : (pair : Pair) (first before now : Progress) → GoesOnWith pair first before → GoesOnWith pair before now → GoesOnWith pair first now

@@ -10,7 +10,7 @@ use Rattle.zr_command.specs.declared.command.Transfer.{Transfer}
 use Rattle.zr_command.specs.declared.version.VersionName.{VersionName}
 use Rattle.zr_command.specs.declared.version.VersionName.TheVariants.{Mark}
 use Rattle.zr_command.specs.declared.version.VersionRow.{VersionRow}
-use Rattle.zr_world.specs.Answering.{Fits}
+use Rattle.zr_world.specs.Answering.{IsReplyTo}
 use Rattle.zr_jobs.specs.declared.pair.Pair.{Pair}
 use Rattle.zr_jobs.specs.Jobs.{job_at, pair_of}
 use Rattle.zr_known.specs.declared.known.Known.{Known}
@@ -32,7 +32,7 @@ abbrev pub progress : {Z : Type 0} → Ghosts Z → Replication Z → Progress
 progress ghosts replication = record {
   unit = sight ghosts replication.unit.now;
   known = replication.known.now;
-  lent = (replication.unit.ghost_name, replication.unit.now.z.ghost_name);
+  lent = (replication.unit.ghost_name, replication.unit.now.runner.ghost_name);
 }
 
 -- it is at work on its pair: what it knows is what its turns told
@@ -62,7 +62,7 @@ Stage pair before now (Err outcome) = HasEndedAs before now outcome
 -- a command was done, and this is what it told
 pub record HasTold (pair : Pair) (command : Cmd) (before now : Progress) : Type 0 where
   pub reply : Reply
-  pub shape : Fits command (Done reply)
+  pub shape : IsReplyTo command (Done reply)
   pub turns_are : now.unit.turns ≡ before.unit.turns ++ (command, Done reply) ∷ []
   pub known_is : now.known ≡ told_by pair command (Done reply) before.known
 

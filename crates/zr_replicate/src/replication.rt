@@ -164,7 +164,7 @@ pub fn replicate<Z: Zfs>(alloc: Global, unit: &mut Guarded<'_, Z>) -> Outcome
     requires of_file { IsOfFile (sight Z.Zfs unit.old).jobs (sight Z.Zfs unit.old).unit }
     requires kind { IsReplicate (sight Z.Zfs unit.old).unit.work }
     ensures ended { HasEnded (sight Z.Zfs unit.old) (sight Z.Zfs unit.new) result }
-    ensures runner { unit.new.z.ghost_name ≡ unit.old.z.ghost_name }
+    ensures same_runner { unit.new.runner.ghost_name ≡ unit.old.runner.ghost_name }
 {
     let Ok(pair) = own_pair(alloc, unit) else {
         return unit.out_of_memory();

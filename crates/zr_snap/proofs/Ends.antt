@@ -15,7 +15,7 @@ use Rattle.zr_command.specs.declared.command.Entry.{Entry}
 use Rattle.zr_permit.specs.declared.told.Told.{Told}
 use Rattle.zr_permit.specs.declared.told.Told.TheVariants as told
 use Rattle.zr_permit.specs.Sight.{HasEnded, HasJustBegun, Sight, Went}
-use Rattle.zr_permit.specs.Turned.{Records, RecordsRun, RecordsUnit, Turns}
+use Rattle.zr_permit.specs.Turned.{IsRecordOf, IsRecordAfter, IsRecordOfUnit, Turns}
 use Rattle.zr_permit.proofs.Ending.{begun-at-work, ended-undone, went-nowhere}
 use Rattle.zr_snap.specs.Scanning.{Gives}
 use Rattle.zr_jobs.specs.declared.job.Job.{Job}
@@ -66,11 +66,11 @@ scanned-result jobs jobs' unit unit' turns rows ended same_jobs same_unit is tol
       too_long_are = refl;
     })
 
-pub short-undone : told.NoMemory ≢ told.Done
-short-undone e = cc
+pub memory-undone : told.NoMemory ≢ told.Done
+memory-undone e = cc
 
 -- a scan has ended where its listing was not done
-pub scan-ended : (before now : Sight) (given : Told) (ended : Outcome) → HasJustBegun before → before.unit.work ≡ work.Scan → Went before now → Turns before.turns now.turns cmd.Sets given → (given ≡ told.Failed → Rose before.faults now.faults) → ((base : Option (List Entry)) → Records base before.told before.turns → RecordsRun base now.told before.turns now.turns cmd.Sets given) → given ≢ told.Done → ended ≡ ended_as (length now.turns) given → HasEnded before now ended
+pub scan-ended : (before now : Sight) (given : Told) (ended : Outcome) → HasJustBegun before → before.unit.work ≡ work.Scan → Went before now → Turns before.turns now.turns cmd.Sets given → (given ≡ told.Failed → Rose before.faults now.faults) → ((base : Option (List Entry)) → IsRecordOf base before.history before.turns → IsRecordAfter base now.history before.turns now.turns cmd.Sets given) → given ≢ told.Done → ended ≡ ended_as (length now.turns) given → HasEnded before now ended
 scan-ended before now given ended begun is went turns rose records undone ended_is =
     ended-undone before now cmd.Sets given ended (begun-at-work before begun) went turns rose records undone (λ failed. scan-ends before.unit.work is) ended_is
 
@@ -92,6 +92,6 @@ scanned-ended now ended result sound memory = record {
   records = λ base records. as-is base ended memory records;
   rose = λ fault. absurd (no-fault (sym sound ∙ fault));
 } where
-  as-is : (base : Option (List Entry)) (outcome_is : Outcome) → is_out_of_memory outcome_is ≡ false → Records base now.told now.turns → RecordsUnit base now.told now.turns outcome_is
+  as-is : (base : Option (List Entry)) (outcome_is : Outcome) → is_out_of_memory outcome_is ≡ false → IsRecordOf base now.history now.turns → IsRecordOfUnit base now.history now.turns outcome_is
   as-is base outcome.NoMemory short records = cc
   as-is base other short records = records

@@ -11,7 +11,7 @@ ghost use Rattle.zr_names.specs.declared.unit.Work.TheVariants as work;
 ghost use Rattle.zr_jobs.specs.Jobs.{destination_of, fits_in, job_at, matched, prunings, replications, rules_of, units_at, UnitsOf};
 ghost use Rattle.zr_permit.specs.Result.{capped, is_child_fault, is_out_of_memory, ResultOf};
 ghost use Rattle.zr_permit.specs.Sight.{HasEnded, HasJustBegun, IsAtWork, sight, Went};
-ghost use Rattle.zr_permit.specs.Turned.{HasTurned, is_short, Records, RecordsRun, Turns};
+ghost use Rattle.zr_permit.specs.Turned.{HasTurned, is_no_memory, IsRecordOf, IsRecordAfter, Turns};
 ghost use Rattle.zr_snap.specs.Scanning.{Gives};
 ghost use Rattle.zr_command.specs.declared.command.Cmd.TheVariants as cmd;
 ghost use Rattle.zr_command.specs.declared.command.Entry.{Entry};
@@ -166,69 +166,69 @@ fn capped(count: usize) -> u32
 }
 
 /// Lists the datasets.
-fn list<Z: Zfs>(g: &mut Guarded<'_, Z>) -> Told
-    requires begun { HasJustBegun (sight Z.Zfs g.old) }
-    requires kind { (sight Z.Zfs g.old).unit.work ≡ work.Scan }
-    ensures went { Went (sight Z.Zfs g.old) (sight Z.Zfs g.new) }
-    ensures turns { Turns (sight Z.Zfs g.old).turns (sight Z.Zfs g.new).turns cmd.Sets result }
-    ensures memory { (sight Z.Zfs g.new).out_of_memory ≡ is_short result }
-    ensures rose { result ≡ Told.Failed → Rose (sight Z.Zfs g.old).faults (sight Z.Zfs g.new).faults }
-    ensures records { (base : Option (List Entry)) → Records base (sight Z.Zfs g.old).told (sight Z.Zfs g.old).turns →
-        RecordsRun base (sight Z.Zfs g.new).told (sight Z.Zfs g.old).turns (sight Z.Zfs g.new).turns cmd.Sets result }
-    ensures runner { g.new.z.ghost_name ≡ g.old.z.ghost_name }
+fn list<Z: Zfs>(unit: &mut Guarded<'_, Z>) -> Told
+    requires begun { HasJustBegun (sight Z.Zfs unit.old) }
+    requires kind { (sight Z.Zfs unit.old).unit.work ≡ work.Scan }
+    ensures went { Went (sight Z.Zfs unit.old) (sight Z.Zfs unit.new) }
+    ensures turns { Turns (sight Z.Zfs unit.old).turns (sight Z.Zfs unit.new).turns cmd.Sets result }
+    ensures memory { (sight Z.Zfs unit.new).out_of_memory ≡ is_no_memory result }
+    ensures rose { result ≡ Told.Failed → Rose (sight Z.Zfs unit.old).faults (sight Z.Zfs unit.new).faults }
+    ensures records { (base : Option (List Entry)) → IsRecordOf base (sight Z.Zfs unit.old).history (sight Z.Zfs unit.old).turns →
+        IsRecordAfter base (sight Z.Zfs unit.new).history (sight Z.Zfs unit.old).turns (sight Z.Zfs unit.new).turns cmd.Sets result }
+    ensures same_runner { unit.new.runner.ghost_name ≡ unit.old.runner.ghost_name }
 {
-    g.run(Cmd::Sets)
+    unit.run(Cmd::Sets)
 }
 
 /// Finds the units of the scan's job over its listing, which was answered last.
 fn scan_listed<Z: Zfs>(
     alloc: Global,
-    g: &Guarded<'_, Z>,
+    unit: &Guarded<'_, Z>,
 ) -> Result<(Outcome, Vec<Unit>), AllocError>
-    requires work { (sight Z.Zfs g.now).unit.work ≡ work.Scan }
-    requires listed { HasTurned [] (sight Z.Zfs g.now).turns cmd.Sets Told.Done }
+    requires work { (sight Z.Zfs unit.now).unit.work ≡ work.Scan }
+    requires listed { HasTurned [] (sight Z.Zfs unit.now).turns cmd.Sets Told.Done }
     ensures result { IfOk result (λ found.
-        ResultOf (sight Z.Zfs g.now).jobs (sight Z.Zfs g.now).unit (sight Z.Zfs g.now).turns found.0) }
+        ResultOf (sight Z.Zfs unit.now).jobs (sight Z.Zfs unit.now).unit (sight Z.Zfs unit.now).turns found.0) }
     ensures units { IfOk result (λ found.
-        Gives (sight Z.Zfs g.now).jobs (sight Z.Zfs g.now).unit (sight Z.Zfs g.now).turns found.0 found.1.items) }
+        Gives (sight Z.Zfs unit.now).jobs (sight Z.Zfs unit.now).unit (sight Z.Zfs unit.now).turns found.0 found.1.items) }
     ensures no_fault { IfOk result (λ found. is_child_fault found.0 ≡ false) }
     ensures memory { IfOk result (λ found. is_out_of_memory found.0 ≡ false) }
 {
-    match g.last() {
+    match unit.last() {
         Some(Answer::Done(Reply::Sets(rows))) => {
-            find_units(alloc, g.jobs(), g.unit(), rows.as_slice())
+            find_units(alloc, unit.jobs(), unit.unit(), rows.as_slice())
         }
         _ => unreachable!(),
     }
 }
 
 /// The outcome of a scan whose listing was done.
-fn scan_done<Z: Zfs>(alloc: Global, g: &Guarded<'_, Z>) -> (Outcome, Vec<Unit>)
-    requires work { (sight Z.Zfs g.now).unit.work ≡ work.Scan }
-    requires at_work { IsAtWork (sight Z.Zfs g.now) }
-    requires listed { HasTurned [] (sight Z.Zfs g.now).turns cmd.Sets Told.Done }
-    ensures ended { HasEnded (sight Z.Zfs g.now) (sight Z.Zfs g.now) result.0 }
-    ensures units { Gives (sight Z.Zfs g.now).jobs (sight Z.Zfs g.now).unit (sight Z.Zfs g.now).turns result.0 result.1.items }
+fn scan_done<Z: Zfs>(alloc: Global, unit: &Guarded<'_, Z>) -> (Outcome, Vec<Unit>)
+    requires work { (sight Z.Zfs unit.now).unit.work ≡ work.Scan }
+    requires at_work { IsAtWork (sight Z.Zfs unit.now) }
+    requires listed { HasTurned [] (sight Z.Zfs unit.now).turns cmd.Sets Told.Done }
+    ensures ended { HasEnded (sight Z.Zfs unit.now) (sight Z.Zfs unit.now) result.0 }
+    ensures units { Gives (sight Z.Zfs unit.now).jobs (sight Z.Zfs unit.now).unit (sight Z.Zfs unit.now).turns result.0 result.1.items }
 {
-    match scan_listed(alloc, g) {
+    match scan_listed(alloc, unit) {
         Ok(found) => found,
-        Err(_) => (g.out_of_memory(), Vec::new(alloc)),
+        Err(_) => (unit.out_of_memory(), Vec::new(alloc)),
     }
 }
 
 /// Lists the datasets, and gives the units of each path that the job's filter matches, in byte order of
 /// paths. A path that is too long to work on, or has a target that is, gives no units, and is counted.
-pub fn scan<Z: Zfs>(alloc: Global, g: &mut Guarded<'_, Z>) -> (Outcome, Vec<Unit>)
-    requires begun { HasJustBegun (sight Z.Zfs g.old) }
-    requires kind { (sight Z.Zfs g.old).unit.work ≡ work.Scan }
-    ensures ended { HasEnded (sight Z.Zfs g.old) (sight Z.Zfs g.new) result.0 }
-    ensures units { Gives (sight Z.Zfs g.old).jobs (sight Z.Zfs g.old).unit (sight Z.Zfs g.new).turns result.0 result.1.items }
-    ensures runner { g.new.z.ghost_name ≡ g.old.z.ghost_name }
+pub fn scan<Z: Zfs>(alloc: Global, unit: &mut Guarded<'_, Z>) -> (Outcome, Vec<Unit>)
+    requires begun { HasJustBegun (sight Z.Zfs unit.old) }
+    requires kind { (sight Z.Zfs unit.old).unit.work ≡ work.Scan }
+    ensures ended { HasEnded (sight Z.Zfs unit.old) (sight Z.Zfs unit.new) result.0 }
+    ensures units { Gives (sight Z.Zfs unit.old).jobs (sight Z.Zfs unit.old).unit (sight Z.Zfs unit.new).turns result.0 result.1.items }
+    ensures same_runner { unit.new.runner.ghost_name ≡ unit.old.runner.ghost_name }
 {
-    match list(g) {
-        Told::Done => scan_done(alloc, g),
-        Told::Failed => (g.ended(Told::Failed), Vec::new(alloc)),
-        Told::Garbled(line) => (g.ended(Told::Garbled(line)), Vec::new(alloc)),
-        Told::NoMemory => (g.ended(Told::NoMemory), Vec::new(alloc)),
+    match list(unit) {
+        Told::Done => scan_done(alloc, unit),
+        Told::Failed => (unit.ended(Told::Failed), Vec::new(alloc)),
+        Told::Garbled(line) => (unit.ended(Told::Garbled(line)), Vec::new(alloc)),
+        Told::NoMemory => (unit.ended(Told::NoMemory), Vec::new(alloc)),
     }
 }

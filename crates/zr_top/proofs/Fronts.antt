@@ -3,10 +3,10 @@ use Rattle.std.proofs.Math.Seq.{take-length}
 use Rattle.std.specs.Io.KnownBytes.{append_known}
 use Rattle.zr_pipe.specs.Ends.{WroteFront}
 use Rattle.zr_pipe.proofs.EndsLemmas.{append_known-nil}
-use Rattle.zr_top.specs.Records.{Known, WroteFrontOf}
+use Rattle.zr_top.specs.Records.{Written, WroteFrontOf}
 
 -- nothing was written
-pub wrote-nothing : (told : Known) (line : List ℕ) → WroteFrontOf told told line
+pub wrote-nothing : (told : Written) (line : List ℕ) → WroteFrontOf told told line
 wrote-nothing told line = record {
   count = 0;
   within = omega arith;
@@ -14,7 +14,7 @@ wrote-nothing told line = record {
 }
 
 -- the whole is a front
-pub front_whole : (before now : Known) (text : List ℕ) → now ≡ append_known before text → WroteFront before now text
+pub front_whole : (before now : Written) (text : List ℕ) → now ≡ append_known before text → WroteFront before now text
 front_whole before now text whole = record {
   count = length text;
   within = omega arith;

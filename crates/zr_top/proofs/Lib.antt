@@ -3,7 +3,7 @@ pub mod Refusing
 pub mod Attempting
 pub mod Books
 pub mod Ending
-pub mod Promises
+pub mod Outcomes
 pub mod Recording
 pub mod Rising
 pub mod Fronts

@@ -16,13 +16,13 @@ use Rattle.zr_pipe.specs.Ends.{WroteFront}
 use Rattle.zr_top.specs.Clock.{Ticks}
 use Rattle.zr_top.specs.Attempts.{AreNumbered, Attempt, entries, IsGood, no_totals, totals_of}
 use Rattle.zr_top.specs.Due.{IsDue, RanDue}
-use Rattle.zr_top.specs.Records.{fault_line, FirstHas, FirstNext, FirstRan, FirstRose, IsFrontOf, IsNext, Known, RanBytes, RanFile, RanJobs, RanNext, Told, Unrun, View, Wrote, WroteAllOrNothing, WroteFrontOf, WroteLineOrNothing, WroteText, zfs}
+use Rattle.zr_top.specs.Records.{fault_line, FirstHas, FirstNext, FirstRan, FirstRose, IsFrontOf, IsNext, Written, RanBytes, RanFile, RanJobs, RanNext, Told, Unrun, View, Wrote, WroteAllOrNothing, WroteFrontOf, WroteLineOrNothing, WroteText, zfs}
 use Rattle.zr_top.specs.Status.{code_of, is_conflict_or_too_long, is_garbled, is_unrun, Printed, some_ended, status_of, status_of_runs}
 use Rattle.zr_top.specs.Totals.{totals_text}
 use Rattle.zr_top.proofs.Books.{balanced}
 use Rattle.zr_top.proofs.Ending.{faults-above, first_of, printed-of-runs, status-of-runs}
 use Rattle.zr_top.proofs.Fronts.{wrote-nothing}
-use Rattle.zr_top.proofs.Promises.{all-honest, means}
+use Rattle.zr_top.proofs.Outcomes.{all-honest, means}
 
 -- what was due was run with children of the program that was asked for, by the record that is read so
 pub of-program : (jobs : JobSet) (moment : Option ℕ) (program asked : List ℕ) (before now : Told) (totals : Totals) → RanDue jobs moment (entries_of asked before) (entries_of program now) totals → RanDue jobs moment (entries_of asked before) (entries_of asked now) totals
@@ -149,7 +149,7 @@ no-line totals before now nothing = record {
   by_totals = inr (inr refl);
   memory_first = λ memory. refl;
   printed = λ loud. absurd (silent loud);
-  front = subst (λ (w : Known). WroteFrontOf before.written w (totals_text totals)) (sym nothing) (wrote-nothing before.written (totals_text totals));
+  front = subst (λ (w : Written). WroteFrontOf before.written w (totals_text totals)) (sym nothing) (wrote-nothing before.written (totals_text totals));
   whole = λ sound. inr nothing;
 }
 
@@ -162,7 +162,7 @@ idle-short file before now same silent =
       unrun = refl;
       line = line;
       of_file = inl refl;
-      front = subst (λ (w : Known). WroteFrontOf before.written w line) (sym silent) (wrote-nothing before.written line);
+      front = subst (λ (w : Written). WroteFrontOf before.written w line) (sym silent) (wrote-nothing before.written line);
       whole = λ sound. inr silent;
     }
 
@@ -218,7 +218,7 @@ no-jobs-unrun file before now given why same unrun loud whole silent = choose wh
         unrun = unrun;
         line = line;
         of_file = inl refl;
-        front = subst (λ (w : Known). WroteFrontOf before.written w line) (sym (silent refl)) (wrote-nothing before.written line);
+        front = subst (λ (w : Written). WroteFrontOf before.written w line) (sym (silent refl)) (wrote-nothing before.written line);
         whole = λ sound. inr (silent refl);
       }
   choose fault.NotToml loud whole silent = refused fault.NotToml no-toml (loud no-toml) (whole no-toml)

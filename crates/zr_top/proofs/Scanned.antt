@@ -78,11 +78,11 @@ finds jobs unit turns kept outcome.NoMemory units gives same = gives
 finds jobs unit turns kept other units gives same = same refl
 
 -- a scan that began and ended was run, and found its units
-pub scan-ran : (jobs : JobSet) (unit : Unit) (run : ℕ) (before : Option (List Entry)) (begun now : Sight) (ended : Outcome) (units : List Unit) → begun.jobs ≡ jobs → begun.unit ≡ unit → begun.told ≡ appended before (Begin unit run ∷ []) → HasJustBegun begun → Legal now.jobs now.unit now.turns → HasEnded begun now ended → Gives begun.jobs begun.unit now.turns ended units → ScanRan jobs unit run before now.told ended units
+pub scan-ran : (jobs : JobSet) (unit : Unit) (run : ℕ) (before : Option (List Entry)) (begun now : Sight) (ended : Outcome) (units : List Unit) → begun.jobs ≡ jobs → begun.unit ≡ unit → begun.history ≡ appended before (Begin unit run ∷ []) → HasJustBegun begun → Legal now.jobs now.unit now.turns → HasEnded begun now ended → Gives begun.jobs begun.unit now.turns ended units → ScanRan jobs unit run before now.history ended units
 scan-ran jobs unit run before begun now ended units same_jobs same_unit begins fresh legal has gives' =
     let gives = gives-same jobs begun.jobs unit begun.unit now.turns ended units same_jobs same_unit gives' in
-    let Known : Transcript → Type 0 = λ ts. Gives jobs unit ts ended units in
-    let ran = ran-with jobs unit run before begun now ended Known same_jobs same_unit begins fresh legal has gives in
+    let Written : Transcript → Type 0 = λ ts. Gives jobs unit ts ended units in
+    let ran = ran-with jobs unit run before begun now ended Written same_jobs same_unit begins fresh legal has gives in
     record {
       begun = Some (run, ran.0.turns);
       numbered = refl;

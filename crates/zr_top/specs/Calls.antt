@@ -22,7 +22,7 @@ pub record Edges : Type 0 where
 
 -- a call of the program: its words, what files contain, the clock's moments, what its objects tell before and after, and
 -- the status
-pub record Call : Type 0 where
+pub record Given : Type 0 where
   pub words : List (List ℕ)
   pub content : List ℕ → Option (List ℕ)
   pub moments : Option (List ℕ)
@@ -34,7 +34,7 @@ abbrev pub edges : ℕ → Option (List ℕ) → Asked → View → Edges
 edges read_faults unread asked view =
     record { read_faults = read_faults; unread = unread; asked = asked; view = view }
 
-abbrev pub call : List (List ℕ) → (List ℕ → Option (List ℕ)) → Option (List ℕ) → Edges → Edges → ℕ → Call
+abbrev pub call : List (List ℕ) → (List ℕ → Option (List ℕ)) → Option (List ℕ) → Edges → Edges → ℕ → Given
 call words content moments before after status = record {
   words = words;
   content = content;
@@ -45,11 +45,11 @@ call words content moments before after status = record {
 }
 
 -- the words name this job file
-abbrev pub Names : Call → List ℕ → Type 0
+abbrev pub Names : Given → List ℕ → Type 0
 Names c file = file_of c.words ≡ Some file
 
 -- the words name this job file, and this is what stands in it
-pub record Finds (c : Call) (file whole : List ℕ) : Type 0 where
+pub record HasFile (c : Given) (file whole : List ℕ) : Type 0 where
   pub named : Names c file
   pub there : c.content file ≡ Some whole
 
@@ -58,20 +58,20 @@ abbrev pub front : List ℕ → List ℕ
 front whole = take (FILE_LIMIT + 1) whole
 
 -- no fault of the call's own: its files, its output and its first runner failed at nothing
-pub record IsSound (c : Call) : Type 0 where
+pub record IsSound (c : Given) : Type 0 where
   pub files : ¬ Rose c.before.read_faults c.after.read_faults
   pub output : ¬ Rose c.before.view.write_faults c.after.view.write_faults
   pub children : ¬ FirstRose c.before.view.child_faults c.after.view.child_faults
 
 -- the promises of a call of `zrepl`
-pub record Keeps (c : Call) : Type 0 where
+pub record Promises (c : Given) : Type 0 where
   -- status 2 only where the words are no command, and then nothing but a failing output or want of memory
   pub usage_only : c.status ≡ 2 → file_of c.words ≡ None
   pub usage : file_of c.words ≡ None → Contains (2 ∷ 8 ∷ 9 ∷ []) c.status
   -- status 3 only where the job file's bytes are refused, and then nothing but a failing read or output
-  pub refused_only : c.status ≡ 3 → (file whole : List ℕ) → Finds c file whole → IsRefused (front whole)
+  pub refused_only : c.status ≡ 3 → (file whole : List ℕ) → HasFile c file whole → IsRefused (front whole)
   pub refused :
-      (file whole : List ℕ) → Finds c file whole → IsRefused (front whole) → Contains (3 ∷ 7 ∷ 8 ∷ 9 ∷ []) c.status
+      (file whole : List ℕ) → HasFile c file whole → IsRefused (front whole) → Contains (3 ∷ 7 ∷ 8 ∷ 9 ∷ []) c.status
   -- the first runner's record has legal runs of the file's units more, which are what was due and destroyed honestly, and
   -- the printed totals and the status are those of their outcomes; or nothing was run
   pub ran :
@@ -85,7 +85,7 @@ pub record Keeps (c : Call) : Type 0 where
   -- completeness: with an accepted file and no fault the status is 0, 4 or 6, of which `ran` says that all that was due was
   -- done, but for garbled listings; or memory was wanting
   pub complete :
-      (file whole : List ℕ) (jobs : JobSet) → Finds c file whole → ReadsJobs (front whole) (Ok jobs) → IsSound c →
+      (file whole : List ℕ) (jobs : JobSet) → HasFile c file whole → ReadsJobs (front whole) (Ok jobs) → IsSound c →
       Contains (0 ∷ 4 ∷ 6 ∷ 9 ∷ []) c.status
   -- one line is all that is printed, and a front of it at most where the output or memory failed: all of it or nothing where
   -- the output did not; that of a named file is part of `ran`
@@ -96,7 +96,7 @@ pub record Keeps (c : Call) : Type 0 where
   pub usage_printed :
       c.status ≡ 2 → c.after.view.written ≡ append_known c.before.view.written USAGE.now
   pub refusal_printed :
-      c.status ≡ 3 → (file whole : List ℕ) → Finds c file whole →
+      c.status ≡ 3 → (file whole : List ℕ) → HasFile c file whole →
       RefusalPrinted (front whole) c.before.view.written c.after.view.written
   pub unread_printed :
       c.status ≡ 7 → (file : List ℕ) → Names c file →

@@ -25,12 +25,12 @@ abbrev pub due_scans : JobSet → ℕ → List Unit
 due_scans jobs moment = first_scans moment (length jobs.jobs)
 
 -- what a scan found: the units of its listing; none where it did not end well or was not begun
-abbrev pub Finds : JobSet → Unit → Option (ℕ × Transcript) → Outcome → List Unit → Type 0
-Finds jobs unit None ended units = units ≡ []
-Finds jobs unit (Some begun) ended units = Gives jobs unit begun.1 ended units
+abbrev pub GaveUnits : JobSet → Unit → Option (ℕ × Transcript) → Outcome → List Unit → Type 0
+GaveUnits jobs unit None ended units = units ≡ []
+GaveUnits jobs unit (Some begun) ended units = Gives jobs unit begun.1 ended units
 
 abbrev pub Found : JobSet → Attempt → List Unit → Type 0
-Found jobs attempt units = Finds jobs attempt.unit attempt.begun attempt.ended units
+Found jobs attempt units = GaveUnits jobs attempt.unit attempt.begun attempt.ended units
 
 -- a scan was run under this number, or could not begin for want of memory, and found these units
 pub record ScanRan (jobs : JobSet) (unit : Unit) (run : ℕ) (before now : Option (List Entry)) (ended : Outcome) (units : List Unit) : Type 0 where
@@ -38,7 +38,7 @@ pub record ScanRan (jobs : JobSet) (unit : Unit) (run : ℕ) (before now : Optio
   pub numbered : IsNumbered run begun
   pub ends_well : EndsWell jobs unit ended begun
   pub recorded : now ≡ appended before (run_entries unit begun)
-  pub finds : Finds jobs unit begun ended units
+  pub finds : GaveUnits jobs unit begun ended units
 
 -- the scans of the first jobs were run, and each found its units
 pub record ScansRan (jobs : JobSet) (moment count : ℕ) (before now : Option (List Entry)) (start totals : Totals) (found : List (List Unit)) : Type 0 where

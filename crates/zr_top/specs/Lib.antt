@@ -2,7 +2,7 @@ pub mod Attempts
 pub mod Calls
 pub mod Clock
 pub mod Due
-pub mod Promises
+pub mod Outcomes
 pub mod Records
 pub mod Status
 pub mod Stored

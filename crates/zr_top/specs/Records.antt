@@ -17,7 +17,7 @@ use Rattle.zr_pipe.specs.Ends.{WroteFront}
 use Rattle.zr_permit.specs.Result.{is_child_fault, is_out_of_memory}
 use Rattle.zr_top.specs.Attempts.{AreNumbered, Attempt, entries, IsBalanced, IsGood, no_totals, totals_of}
 use Rattle.zr_top.specs.Due.{IsDue, RanDue}
-use Rattle.zr_top.specs.Promises.{AllHonest, Means}
+use Rattle.zr_top.specs.Outcomes.{AllHonest, Means}
 use Rattle.zr_top.specs.Status.{is_unrun, Printed, some_ended, status_of_runs}
 use Rattle.zr_top.specs.Totals.{totals_text}
 
@@ -30,18 +30,18 @@ abbrev pub Told : Type 0
 Told = Option (List Line)
 
 -- the bytes that were written to the output, where it tells them
-abbrev pub Known : Type 0
-Known = Option (List ℕ)
+abbrev pub Written : Type 0
+Written = Option (List ℕ)
 
 -- what the runners and the output tell, before a call or after it: the runners' records, the counts of their children's
 -- faults, what was written, and the count of the faults of writing
 pub record View : Type 0 where
   pub records : List Told
   pub child_faults : List ℕ
-  pub written : Known
+  pub written : Written
   pub write_faults : ℕ
 
-abbrev pub view : {R : Type 0} → (R → Told) → (R → ℕ) → List R → Known → ℕ → View
+abbrev pub view : {R : Type 0} → (R → Told) → (R → ℕ) → List R → Written → ℕ → View
 view told faults runners written write_faults = record {
   records = map told runners;
   child_faults = map faults runners;
@@ -93,19 +93,19 @@ is_silent status.OutOfMemory = true
 is_silent other = false
 
 -- this text is all that was printed, unless the output or memory failed
-abbrev pub WroteText : Status → Known → Known → List ℕ → Type 0
+abbrev pub WroteText : Status → Written → Written → List ℕ → Type 0
 WroteText given before now text = is_silent given ≡ false → now ≡ append_known before text
 
 -- the same of a line
-abbrev pub Wrote : Status → Known → Known → List ℕ → Type 0
+abbrev pub Wrote : Status → Written → Written → List ℕ → Type 0
 Wrote given before now line = WroteText given before now (line ++ 10 ∷ [])
 
 -- a front of this line is all that was written
-abbrev pub WroteFrontOf : Known → Known → List ℕ → Type 0
+abbrev pub WroteFrontOf : Written → Written → List ℕ → Type 0
 WroteFrontOf before now line = WroteFront before now (line ++ 10 ∷ [])
 
 -- where the count of the faults of writing did not rise, all of this text was written, or nothing
-abbrev pub WroteAllOrNothing : ℕ → ℕ → Known → Known → List ℕ → Type 0
+abbrev pub WroteAllOrNothing : ℕ → ℕ → Written → Written → List ℕ → Type 0
 WroteAllOrNothing faults_before faults before now text =
     ¬ Rose faults_before faults → (now ≡ append_known before text) ⊎ (now ≡ before)
 
@@ -184,7 +184,7 @@ RanFile file content moments before now given =
     Unrun file before now given ⊎ RanContent content moments before now given
 
 -- the bytes of a job file are refused, and the line of their fault, which is not empty, is all that was printed
-pub record RefusalPrinted (bytes : List ℕ) (wrote_before wrote : Known) : Type 0 where
+pub record RefusalPrinted (bytes : List ℕ) (wrote_before wrote : Written) : Type 0 where
   pub why : JobFault
   pub by_fault : ReadsJobs bytes (Err why)
   pub not_memory : why ≢ fault.NoMemory

@@ -52,19 +52,19 @@ fn scan_all<Z: Zfs>(
     jobs: &JobSet,
     moment: Moment,
     tally: &mut Tally,
-    z: &mut Z,
+    runner: &mut Z,
 ) -> Result<Vec<Rows<Unit>>, AllocError>
     requires { length jobs.now.jobs < 2 ^ 32 }
     ensures units { IfOk result (λ found. All (All (IsDueUnit jobs.now)) found.items) }
     ensures ran { IfOk result (λ found. ScansRan jobs.now moment (length jobs.now.jobs)
-        (Z.told z.old) (Z.told z.new) tally.old.totals tally.new.totals found.items) }
-    ensures unbegun { IfErr result (λ fault. z.new ≡ z.old) }
-    ensures later { Z.faults z.old ≤ Z.faults z.new }
-    ensures rose { FaultsRose tally.old.totals tally.new.totals (Z.faults z.old) (Z.faults z.new) }
+        (Z.history runner.old) (Z.history runner.new) tally.old.totals tally.new.totals found.items) }
+    ensures unbegun { IfErr result (λ fault. runner.new ≡ runner.old) }
+    ensures later { Z.faults runner.old ≤ Z.faults runner.new }
+    ensures rose { FaultsRose tally.old.totals tally.new.totals (Z.faults runner.old) (Z.faults runner.new) }
 {
     let mut found = Vec::with_capacity(alloc, jobs.jobs.len())?;
     for job in 0..jobs.jobs.len() as u32 {
-        let (outcome, units) = run_scan(alloc, jobs, job, moment, tally.next_run(), z);
+        let (outcome, units) = run_scan(alloc, jobs, job, moment, tally.next_run(), runner);
         tally.count(&outcome);
         found.push_reserved(Rows::from_vec(units));
     }
@@ -72,15 +72,15 @@ fn scan_all<Z: Zfs>(
 }
 
 /// Runs some units in their order.
-fn run_units<Z: Zfs>(alloc: Global, jobs: &JobSet, units: Vec<Unit>, tally: &mut Tally, z: &mut Z)
+fn run_units<Z: Zfs>(alloc: Global, jobs: &JobSet, units: Vec<Unit>, tally: &mut Tally, runner: &mut Z)
     requires { All (IsDueUnit jobs.now) units.items }
-    ensures ran { Attempted jobs.now units.items (Z.told z.old) (Z.told z.new)
+    ensures ran { Attempted jobs.now units.items (Z.history runner.old) (Z.history runner.new)
         tally.old.totals tally.new.totals }
-    ensures later { Z.faults z.old ≤ Z.faults z.new }
-    ensures rose { FaultsRose tally.old.totals tally.new.totals (Z.faults z.old) (Z.faults z.new) }
+    ensures later { Z.faults runner.old ≤ Z.faults runner.new }
+    ensures rose { FaultsRose tally.old.totals tally.new.totals (Z.faults runner.old) (Z.faults runner.new) }
 {
     for unit in units {
-        let outcome = run_unit(alloc, jobs, unit, tally.next_run(), z);
+        let outcome = run_unit(alloc, jobs, unit, tally.next_run(), runner);
         tally.count(&outcome);
     }
 }
@@ -91,16 +91,16 @@ fn run_all<Z: Zfs>(
     jobs: &JobSet,
     found: Vec<Rows<Unit>>,
     tally: &mut Tally,
-    z: &mut Z,
+    runner: &mut Z,
 )
     requires { All (All (IsDueUnit jobs.now)) found.items }
-    ensures ran { Attempted jobs.now (joined found.items) (Z.told z.old) (Z.told z.new)
+    ensures ran { Attempted jobs.now (joined found.items) (Z.history runner.old) (Z.history runner.new)
         tally.old.totals tally.new.totals }
-    ensures later { Z.faults z.old ≤ Z.faults z.new }
-    ensures rose { FaultsRose tally.old.totals tally.new.totals (Z.faults z.old) (Z.faults z.new) }
+    ensures later { Z.faults runner.old ≤ Z.faults runner.new }
+    ensures rose { FaultsRose tally.old.totals tally.new.totals (Z.faults runner.old) (Z.faults runner.new) }
 {
     for units in found {
-        run_units(alloc, jobs, units.into_vec(), tally, z);
+        run_units(alloc, jobs, units.into_vec(), tally, runner);
     }
 }
 
@@ -111,21 +111,21 @@ pub fn once<Z: Zfs>(
     alloc: Global,
     jobs: &JobSet,
     moment: Option<Moment>,
-    z: &mut Z,
+    runner: &mut Z,
 ) -> Result<Totals, NoMemory>
     requires few { length jobs.now.jobs < 2 ^ 32 }
-    ensures ran { IfOk result (λ totals. RanDue jobs.now moment (Z.told z.old) (Z.told z.new) totals) }
-    ensures unbegun { IfErr result (λ fault. z.new ≡ z.old) }
-    ensures later { Z.faults z.old ≤ Z.faults z.new }
-    ensures rose { IfOk result (λ totals. 0 < totals.faults → Rose (Z.faults z.old) (Z.faults z.new)) }
+    ensures ran { IfOk result (λ totals. RanDue jobs.now moment (Z.history runner.old) (Z.history runner.new) totals) }
+    ensures unbegun { IfErr result (λ fault. runner.new ≡ runner.old) }
+    ensures later { Z.faults runner.old ≤ Z.faults runner.new }
+    ensures rose { IfOk result (λ totals. 0 < totals.faults → Rose (Z.faults runner.old) (Z.faults runner.new)) }
 {
     let mut tally = Tally::new();
     let Some(moment) = moment else {
         return Ok(tally.totals);
     };
-    let Ok(found) = scan_all(alloc, jobs, moment, &mut tally, z) else {
+    let Ok(found) = scan_all(alloc, jobs, moment, &mut tally, runner) else {
         return Err(NoMemory);
     };
-    run_all(alloc, jobs, found, &mut tally, z);
+    run_all(alloc, jobs, found, &mut tally, runner);
     Ok(tally.totals)
 }

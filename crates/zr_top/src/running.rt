@@ -24,31 +24,31 @@ pub fn run_scan<Z: Zfs>(
     job: u32,
     moment: Moment,
     run: u64,
-    z: &mut Z,
+    runner: &mut Z,
 ) -> (Outcome, Vec<Unit>)
     requires { job < length jobs.now.jobs }
-    ensures ran { ScanRan jobs.now (scan_of moment job) run (Z.told z.old) (Z.told z.new)
+    ensures ran { ScanRan jobs.now (scan_of moment job) run (Z.history runner.old) (Z.history runner.new)
         result.0 result.1.items }
     ensures units { All (IsDueUnit jobs.now) result.1.items }
-    ensures later { Z.faults z.old ≤ Z.faults z.new }
-    ensures fault_rose { is_child_fault result.0 ≡ true → Rose (Z.faults z.old) (Z.faults z.new) }
+    ensures later { Z.faults runner.old ≤ Z.faults runner.new }
+    ensures fault_rose { is_child_fault result.0 ≡ true → Rose (Z.faults runner.old) (Z.faults runner.new) }
 {
     let unit = Unit {
         job,
         moment,
         work: Work::Scan,
     };
-    match Guarded::begin(alloc, unit, run, jobs, z) {
-        Ok(mut g) => {
-            let found = scan(alloc, &mut g);
-            let _legal = g.transcript();
-            let _back = g.end();
+    match Guarded::begin(alloc, unit, run, jobs, runner) {
+        Ok(mut unit) => {
+            let found = scan(alloc, &mut unit);
+            let _legal = unit.transcript();
+            let _back = unit.end();
             found
         }
         Err(unbegun) => {
             let Unbegun {
                 unit: _unit,
-                z: back,
+                runner: back,
             } = unbegun;
             let _ = back;
             (Outcome::NoMemory, Vec::new(alloc))
@@ -57,38 +57,38 @@ pub fn run_scan<Z: Zfs>(
 }
 
 /// Does the work of a unit that has just begun.
-fn work<Z: Zfs>(alloc: Global, g: &mut Guarded<'_, Z>) -> Outcome
-    requires begun { HasJustBegun (sight Z.Zfs g.old) }
-    requires of_file { IsOfFile (sight Z.Zfs g.old).jobs (sight Z.Zfs g.old).unit }
-    requires kind { IsDueWork (sight Z.Zfs g.old).unit.work }
-    ensures ended { HasEnded (sight Z.Zfs g.old) (sight Z.Zfs g.new) result }
-    ensures runner { g.new.z.ghost_name ≡ g.old.z.ghost_name }
+fn work<Z: Zfs>(alloc: Global, unit: &mut Guarded<'_, Z>) -> Outcome
+    requires begun { HasJustBegun (sight Z.Zfs unit.old) }
+    requires of_file { IsOfFile (sight Z.Zfs unit.old).jobs (sight Z.Zfs unit.old).unit }
+    requires kind { IsDueWork (sight Z.Zfs unit.old).unit.work }
+    ensures ended { HasEnded (sight Z.Zfs unit.old) (sight Z.Zfs unit.new) result }
+    ensures same_runner { unit.new.runner.ghost_name ≡ unit.old.runner.ghost_name }
 {
-    match g.unit().work {
-        Work::Replicate(_) => replicate(alloc, g),
-        Work::PruneSource(_) => prune(alloc, g),
+    match unit.unit().work {
+        Work::Replicate(_) => replicate(alloc, unit),
+        Work::PruneSource(_) => prune(alloc, unit),
         _ => unreachable!(),
     }
 }
 
 /// Runs a unit that a scan gave.
-pub fn run_unit<Z: Zfs>(alloc: Global, jobs: &JobSet, unit: Unit, run: u64, z: &mut Z) -> Outcome
+pub fn run_unit<Z: Zfs>(alloc: Global, jobs: &JobSet, unit: Unit, run: u64, runner: &mut Z) -> Outcome
     requires { IsDueUnit jobs.now unit }
-    ensures ran { Ran jobs.now unit run (Z.told z.old) (Z.told z.new) result }
-    ensures later { Z.faults z.old ≤ Z.faults z.new }
-    ensures fault_rose { is_child_fault result ≡ true → Rose (Z.faults z.old) (Z.faults z.new) }
+    ensures ran { Ran jobs.now unit run (Z.history runner.old) (Z.history runner.new) result }
+    ensures later { Z.faults runner.old ≤ Z.faults runner.new }
+    ensures fault_rose { is_child_fault result ≡ true → Rose (Z.faults runner.old) (Z.faults runner.new) }
 {
-    match Guarded::begin(alloc, unit, run, jobs, z) {
-        Ok(mut g) => {
-            let outcome = work(alloc, &mut g);
-            let _legal = g.transcript();
-            let _back = g.end();
+    match Guarded::begin(alloc, unit, run, jobs, runner) {
+        Ok(mut unit) => {
+            let outcome = work(alloc, &mut unit);
+            let _legal = unit.transcript();
+            let _back = unit.end();
             outcome
         }
         Err(unbegun) => {
             let Unbegun {
                 unit: _unit,
-                z: back,
+                runner: back,
             } = unbegun;
             let _ = back;
             Outcome::NoMemory

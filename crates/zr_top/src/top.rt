@@ -3,7 +3,7 @@ ghost use Rattle.std.specs.String.{string_bytes};
 ghost use Rattle.zr_jobfile.specs.declared.TheConstants.{FILE_LIMIT};
 ghost use Rattle.std.specs.Io.KnownBytes.{append_known};
 ghost use Rattle.zr_pipe.specs.Faults.{Rose};
-ghost use Rattle.zr_top.specs.Calls.{call, edges, Keeps};
+ghost use Rattle.zr_top.specs.Calls.{given, edges, Promises};
 ghost use Rattle.zr_top.specs.Records.{FirstRan, FirstRose, RefusalPrinted, Wrote, WroteAllOrNothing, WroteFrontOf, RanBytes, RanFile, RanJobs, RanOnce, Unrun, view};
 ghost use Rattle.zr_top.specs.declared.status.Status.{Status};
 ghost use Rattle.zr_top.specs.Status.{is_idle, is_of_run, IsRefused, Printed, RefusedOrUnread};
@@ -34,7 +34,7 @@ fn once_with<R: Spawn, C: Clock + Drop>(
     mut clock: C,
 ) -> (Result<Totals, NoMemory>, R)
     requires few { length jobs.now.jobs < 2 ^ 32 }
-    ensures ran { RanOnce jobs.now (C.moments clock) (R.told child) (R.told result.1) result.0 }
+    ensures ran { RanOnce jobs.now (C.moments clock) (R.history child) (R.history result.1) result.0 }
     ensures rose { IfOk result.0 (λ totals. 0 < totals.faults → Rose (R.faults child) (R.faults result.1)) }
 {
     let Ok(program) = String::from_str(alloc, "zfs") else {
@@ -58,8 +58,8 @@ fn once_with_first<R: Spawn + Drop, C: Clock + Drop>(
     requires some { 0 < vec_len children.old }
     requires few { length jobs.now.jobs < 2 ^ 32 }
     ensures len { vec_len children.new ≡ vec_len children.old }
-    ensures first { FirstRan jobs.now (C.moments clock) (map (λ r. R.told r) children.old.items)
-        (map (λ r. R.told r) children.new.items) result }
+    ensures first { FirstRan jobs.now (C.moments clock) (map (λ r. R.history r) children.old.items)
+        (map (λ r. R.history r) children.new.items) result }
     ensures rose { IfOk result (λ totals. 0 < totals.faults →
         FirstRose (map (λ r. R.faults r) children.old.items) (map (λ r. R.faults r) children.new.items)) }
     ensures others { drop 1 children.new.items ≡ drop 1 children.old.items }
@@ -85,11 +85,11 @@ fn run_jobs<R: Spawn + Drop, C: Clock + Drop, S: Sink>(
     ensures len { vec_len children.new ≡ vec_len children.old }
     ensures of_run { is_of_run result ≡ true }
     ensures ran { (file : List ℕ) → Unrun file
-        (view (λ r. R.told r) (λ r. R.faults r) children.old.items (S.written out.old) (S.faults out.old))
-        (view (λ r. R.told r) (λ r. R.faults r) children.new.items (S.written out.new) (S.faults out.new)) result
+        (view (λ r. R.history r) (λ r. R.faults r) children.old.items (S.written out.old) (S.faults out.old))
+        (view (λ r. R.history r) (λ r. R.faults r) children.new.items (S.written out.new) (S.faults out.new)) result
         ⊎ RanJobs jobs.now (C.moments clock)
-        (view (λ r. R.told r) (λ r. R.faults r) children.old.items (S.written out.old) (S.faults out.old))
-        (view (λ r. R.told r) (λ r. R.faults r) children.new.items (S.written out.new) (S.faults out.new)) result }
+        (view (λ r. R.history r) (λ r. R.faults r) children.old.items (S.written out.old) (S.faults out.old))
+        (view (λ r. R.history r) (λ r. R.faults r) children.new.items (S.written out.new) (S.faults out.new)) result }
     ensures failed { result ≡ Status.ChildFault →
         FirstRose (map (λ r. R.faults r) children.old.items) (map (λ r. R.faults r) children.new.items) }
     ensures others { drop 1 children.new.items ≡ drop 1 children.old.items }
@@ -122,11 +122,11 @@ fn run_file<R: Spawn + Drop, C: Clock + Drop, S: Sink>(
     ensures readable { result ≢ Status.Unreadable }
     ensures idle { result ≡ Status.JobFile → children.new.items ≡ children.old.items }
     ensures ran { (file : List ℕ) → Unrun file
-        (view (λ r. R.told r) (λ r. R.faults r) children.old.items (S.written out.old) (S.faults out.old))
-        (view (λ r. R.told r) (λ r. R.faults r) children.new.items (S.written out.new) (S.faults out.new)) result
+        (view (λ r. R.history r) (λ r. R.faults r) children.old.items (S.written out.old) (S.faults out.old))
+        (view (λ r. R.history r) (λ r. R.faults r) children.new.items (S.written out.new) (S.faults out.new)) result
         ⊎ RanBytes bytes.now (C.moments clock)
-        (view (λ r. R.told r) (λ r. R.faults r) children.old.items (S.written out.old) (S.faults out.old))
-        (view (λ r. R.told r) (λ r. R.faults r) children.new.items (S.written out.new) (S.faults out.new)) result }
+        (view (λ r. R.history r) (λ r. R.faults r) children.old.items (S.written out.old) (S.faults out.old))
+        (view (λ r. R.history r) (λ r. R.faults r) children.new.items (S.written out.new) (S.faults out.new)) result }
     ensures failed { result ≡ Status.ChildFault →
         FirstRose (map (λ r. R.faults r) children.old.items) (map (λ r. R.faults r) children.new.items) }
     ensures others { drop 1 children.new.items ≡ drop 1 children.old.items }
@@ -176,8 +176,8 @@ fn run_named<F: Files, R: Spawn + Drop, C: Clock + Drop, S: Sink>(
     ensures no_usage { result ≢ Status.Usage }
     ensures idle { is_idle result ≡ true → children.new.items ≡ children.old.items }
     ensures ran { RanFile file.now (F.content files.old file.now) (C.moments clock)
-        (view (λ r. R.told r) (λ r. R.faults r) children.old.items (S.written out.old) (S.faults out.old))
-        (view (λ r. R.told r) (λ r. R.faults r) children.new.items (S.written out.new) (S.faults out.new)) result }
+        (view (λ r. R.history r) (λ r. R.faults r) children.old.items (S.written out.old) (S.faults out.old))
+        (view (λ r. R.history r) (λ r. R.faults r) children.new.items (S.written out.new) (S.faults out.new)) result }
     ensures asked { AsksAtMost (F.asked files.old) (F.asked files.new) file.now }
     ensures failed { result ≡ Status.ChildFault →
         FirstRose (map (λ r. R.faults r) children.old.items) (map (λ r. R.faults r) children.new.items) }
@@ -218,11 +218,11 @@ where
     ensures others { drop 1 children.new.items ≡ drop 1 children.old.items }
     ensures unrun { file_of (map string_bytes words.now) ≡ None → children.new.items ≡ children.old.items }
     ensures idle { (result ≡ 2) ⊎ (result ≡ 3) ⊎ (result ≡ 7) → children.new.items ≡ children.old.items }
-    ensures kept { Keeps (call (map string_bytes words.now) (F.content files.old) (C.moments clock)
+    ensures kept { Promises (given (map string_bytes words.now) (F.content files.old) (C.moments clock)
         (edges (F.faults files.old) (F.failed files.old) (F.asked files.old)
-        (view (λ r. R.told r) (λ r. R.faults r) children.old.items (S.written out.old) (S.faults out.old)))
+        (view (λ r. R.history r) (λ r. R.faults r) children.old.items (S.written out.old) (S.faults out.old)))
         (edges (F.faults files.new) (F.failed files.new) (F.asked files.new)
-        (view (λ r. R.told r) (λ r. R.faults r) children.new.items (S.written out.new) (S.faults out.new))) result) }
+        (view (λ r. R.history r) (λ r. R.faults r) children.new.items (S.written out.new) (S.faults out.new))) result) }
 {
     match once_file(words) {
         Some(file) => run_named(alloc, file, files, children, clock, out).code(),

@@ -9,7 +9,7 @@ use Rattle.zr_command.specs.declared.command.Cmd.{Cmd}
 use Rattle.zr_command.specs.declared.command.Reply.{Reply}
 use Rattle.zr_command.specs.declared.command.Reply.TheVariants as reply
 use Rattle.zr_world.specs.declared.pools.Pools.{Pools}
-use Rattle.zr_world.specs.Answering.{Fits}
+use Rattle.zr_world.specs.Answering.{IsReplyTo}
 use Rattle.zr_world.specs.Effect.{after_since, Applies, Effect, left_by, part_of, reply_to, step_at, unless_refused}
 use Rattle.zr_world.specs.Pools.{IsWellFormed}
 use Rattle.zr_world.specs.Reasons.{refusal}
@@ -38,9 +38,9 @@ applied-reply pools after next (Some why) given got applies = absurd applies
 applied-reply pools after next None given got applies = applies.1
 
 -- the reply of a command at its whole extent fits it
-pub apply-fits : (pools after : Pools) (command : Cmd) (got : Reply) → Applies pools (step_at pools command extent.Whole) after (Ok got) → IsWellFormed pools → Fits command (Done got)
+pub apply-fits : (pools after : Pools) (command : Cmd) (got : Reply) → Applies pools (step_at pools command extent.Whole) after (Ok got) → IsWellFormed pools → IsReplyTo command (Done got)
 apply-fits pools after command got applies formed =
-    let fits : Reply → Type 0 = λ r. Fits command (Done r) in
+    let fits : Reply → Type 0 = λ r. IsReplyTo command (Done r) in
     let same = applied-reply pools after (after_since pools pools command) (refusal pools command) (reply_to pools command) got applies in
     subst fits (sym same) (reply-fits pools command formed)
 

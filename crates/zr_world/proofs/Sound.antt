@@ -24,7 +24,7 @@ use Rattle.zr_command.specs.declared.version.VersionName.{VersionName}
 use Rattle.zr_command.specs.declared.version.VersionName.TheVariants.{Snap, Mark}
 use Rattle.zr_names.specs.declared.unit.Guid.{Guid}
 use Rattle.zr_command.specs.declared.version.VersionRow.{VersionRow}
-use Rattle.zr_world.specs.Answering.{Fits}
+use Rattle.zr_world.specs.Answering.{IsReplyTo}
 use Rattle.zr_world.specs.Effect.{after_since, bookmark_of, bookmarked, part_of, partial_of, put_in, received, reply_to, set_before, transferred, with_partial, with_set, with_target, with_version, without_tag}
 use Rattle.zr_world.specs.Lookup.{dataset_at, has_guid, has_name, is_at, is_snapshot, newest, tags_at, version_at}
 use Rattle.zr_command.specs.Kinds.{names_snap}
@@ -229,7 +229,7 @@ versions-list-at pools path (Some set) is formed =
     versions-list pools.next_txg set (found_from_All (IsWellFormedSet pools.next_txg) (is_at path) pools.sets set is formed.each)
 
 -- the reply to a command fits it
-pub reply-fits : (pools : Pools) (command : Cmd) → IsWellFormed pools → Fits command (Done (reply_to pools command))
+pub reply-fits : (pools : Pools) (command : Cmd) → IsWellFormed pools → IsReplyTo command (Done (reply_to pools command))
 reply-fits pools cmd.Sets formed = sets-list pools formed
 reply-fits pools (cmd.Versions path) formed = versions-list-at pools path (dataset_at pools path) refl formed
 reply-fits pools (cmd.Holds path name) formed = tags_at-differ pools path (Snap name) formed

@@ -68,19 +68,19 @@ Acts command before after answer = ⊥
 
 -- the answers that a command can have: its own kind of reply, whose names differ, or a failure; a
 -- garbled listing for a listing alone
-abbrev pub Fits : Cmd → Answer → Type 0
-Fits cmd.Sets (Done (reply.Sets rows)) = IsSetList rows
-Fits (cmd.Versions path) (Done (reply.Versions rows)) = IsVersionList rows
-Fits (cmd.Holds path name) (Done (reply.Holds tags)) = AllPairs (λ a b. a ≢ b) tags
-Fits (cmd.Hold kind job path name) (Done reply.Nothing) = ⊤
-Fits (cmd.Release kind job path name) (Done reply.Nothing) = ⊤
-Fits (cmd.Bookmark path version mark) (Done reply.Nothing) = ⊤
-Fits (cmd.DestroySnap path name) (Done reply.Nothing) = ⊤
-Fits (cmd.DestroyMark path mark) (Done reply.Nothing) = ⊤
-Fits (cmd.Transfer transfer) (Done reply.Nothing) = ⊤
-Fits cmd.Sets (Garbled line) = ⊤
-Fits (cmd.Versions path) (Garbled line) = ⊤
-Fits (cmd.Holds path name) (Garbled line) = ⊤
-Fits command Failed = ⊤
-Fits command NoMemory = ⊤
-Fits command answer = ⊥
+abbrev pub IsReplyTo : Cmd → Answer → Type 0
+IsReplyTo cmd.Sets (Done (reply.Sets rows)) = IsSetList rows
+IsReplyTo (cmd.Versions path) (Done (reply.Versions rows)) = IsVersionList rows
+IsReplyTo (cmd.Holds path name) (Done (reply.Holds tags)) = AllPairs (λ a b. a ≢ b) tags
+IsReplyTo (cmd.Hold kind job path name) (Done reply.Nothing) = ⊤
+IsReplyTo (cmd.Release kind job path name) (Done reply.Nothing) = ⊤
+IsReplyTo (cmd.Bookmark path version mark) (Done reply.Nothing) = ⊤
+IsReplyTo (cmd.DestroySnap path name) (Done reply.Nothing) = ⊤
+IsReplyTo (cmd.DestroyMark path mark) (Done reply.Nothing) = ⊤
+IsReplyTo (cmd.Transfer transfer) (Done reply.Nothing) = ⊤
+IsReplyTo cmd.Sets (Garbled line) = ⊤
+IsReplyTo (cmd.Versions path) (Garbled line) = ⊤
+IsReplyTo (cmd.Holds path name) (Garbled line) = ⊤
+IsReplyTo command Failed = ⊤
+IsReplyTo command NoMemory = ⊤
+IsReplyTo command answer = ⊥

@@ -1,5 +1,5 @@
 ghost use Rattle.std.specs.Prelude.{◌≡◌, ◌++◌, ◌∷◌, [], None, false, is_some, true};
-ghost use Rattle.zr_world.specs.Answering.{Answers, Fits, HasCause, is_garbled};
+ghost use Rattle.zr_world.specs.Answering.{Answers, IsReplyTo, HasCause, is_garbled};
 ghost use Rattle.zr_world.specs.Pools.{IsWellFormed};
 ghost use Rattle.zr_world.specs.Reasons.{refusal};
 
@@ -19,7 +19,7 @@ pub fn act(
     ensures cause { HasCause faults.old faults.new result }
     ensures answer { Answers cmd.now pools.old pools.new result }
     ensures well_formed { IsWellFormed pools.old → IsWellFormed pools.new }
-    ensures shape { IsWellFormed pools.old → Fits cmd.now result }
+    ensures shape { IsWellFormed pools.old → IsReplyTo cmd.now result }
     ensures legible { is_garbled result ≡ false }
     ensures planned { is_some plan ≡ true → result ≡ Answer.Failed }
     ensures refused { plan ≡ None → result ≡ Answer.Failed → is_some (refusal pools.old cmd.now) ≡ true }
@@ -47,7 +47,7 @@ fn succeed(alloc: Global, pools: &mut Pools, faults: &mut u64, cmd: &Cmd) -> Ans
     ensures cause { HasCause faults.old faults.new result }
     ensures answer { Answers cmd.now pools.old pools.new result }
     ensures well_formed { IsWellFormed pools.old → IsWellFormed pools.new }
-    ensures shape { IsWellFormed pools.old → Fits cmd.now result }
+    ensures shape { IsWellFormed pools.old → IsReplyTo cmd.now result }
     ensures legible { is_garbled result ≡ false }
     ensures refused { result ≡ Answer.Failed → is_some (refusal pools.old cmd.now) ≡ true }
 {

@@ -4,7 +4,7 @@
 pub use acting::act;
 pub use effects::{ApplyFault, Extent, Refusal, apply};
 pub use mem::MemZfs;
-pub use planned::Planned;
+pub use planned::PlannedFailure;
 pub use pools::{Dataset, Partial, Pools, Version};
 pub use zfs::Zfs;
 pub use zr_command::{Answer, Base, Cmd, Entry, Reply, SetRow, Transfer, VersionName, VersionRow};

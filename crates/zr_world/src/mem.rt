@@ -3,7 +3,7 @@ ghost use Rattle.zr_world.specs.Mem.{Recorded};
 ghost use Rattle.zr_command.specs.Plain.{plain};
 
 use crate::acting::act;
-use crate::planned::Planned;
+use crate::planned::PlannedFailure;
 use crate::pools::Pools;
 use crate::zfs::Zfs;
 use std::alloc::{AllocError, Global};
@@ -16,10 +16,10 @@ use zr_names::{NoMemory, Same, Unit};
 pub struct MemZfs {
     alloc: Global,
     pools: Pools,
-    failing: Vec<Planned>,
+    failing: Vec<PlannedFailure>,
     calls: u64,
     faults: u64,
-    told: Vec<Entry>,
+    history: Vec<Entry>,
 }
 
 impl Model for MemZfs {
@@ -33,7 +33,7 @@ impl Model for MemZfs {
       failing = m.failing.items;
       calls = m.calls;
       faults = m.faults;
-      told = m.told.items;
+      history = m.history.items;
     } };
 
     ghost invariant = { λ m. IsWellFormed m.pools };
@@ -44,14 +44,14 @@ impl MemZfs {
     ghost use Rattle.zr_world.specs.Pools.{IsWellFormed};
 
     /// A runner whose n-th `run`, counted from 1, fails where `failing` names n.
-    pub fn new(alloc: Global, pools: Pools, failing: Vec<Planned>) -> MemZfs
+    pub fn new(alloc: Global, pools: Pools, failing: Vec<PlannedFailure>) -> MemZfs
         requires { IsWellFormed pools }
         ensures { result ≡ record {
           pools = pools;
           failing = failing.items;
           calls = 0;
           faults = 0;
-          told = [];
+          history = [];
         } }
     {
         MemZfs {
@@ -60,7 +60,7 @@ impl MemZfs {
             failing,
             calls: 0,
             faults: 0,
-            told: Vec::new(alloc),
+            history: Vec::new(alloc),
         }
     }
 
@@ -71,10 +71,10 @@ impl MemZfs {
     }
 
     /// The begun runs and the calls so far.
-    pub fn told(&self) -> &[Entry]
-        ensures { result.now ≡ self.now.told }
+    pub fn history(&self) -> &[Entry]
+        ensures { result.now ≡ self.now.history }
     {
-        self.told.as_slice()
+        self.history.as_slice()
     }
 }
 
@@ -97,23 +97,23 @@ fn call_entry(cmd: &Cmd, answer: &Answer) -> Result<Entry, AllocError>
     }
 }
 
-fn push(told: &mut Vec<Entry>, entry: Entry) -> Result<(), NoMemory>
-    ensures ok { OnOk result (told.new.items ≡ told.old.items ++ entry ∷ []) }
-    ensures err { OnErr result (told.new.items ≡ told.old.items) }
+fn push(history: &mut Vec<Entry>, entry: Entry) -> Result<(), NoMemory>
+    ensures ok { OnOk result (history.new.items ≡ history.old.items ++ entry ∷ []) }
+    ensures err { OnErr result (history.new.items ≡ history.old.items) }
 {
-    told.push(entry)?;
+    history.push(entry)?;
     Ok(())
 }
 
 /// Puts a call into the record, or answers want of memory in place of its answer.
-fn recorded(told: &mut Vec<Entry>, cmd: &Cmd, answer: Answer) -> Answer
-    ensures { Recorded told.old.items told.new.items (plain cmd.now) answer result }
+fn recorded(history: &mut Vec<Entry>, cmd: &Cmd, answer: Answer) -> Answer
+    ensures { Recorded history.old.items history.new.items (plain cmd.now) answer result }
 {
     let Ok(entry) = call_entry(cmd, &answer) else {
         drop(answer);
         return Answer::NoMemory;
     };
-    match push(told, entry) {
+    match push(history, entry) {
         Ok(()) => answer,
         Err(NoMemory) => {
             drop(answer);
@@ -129,16 +129,16 @@ impl Zfs for MemZfs {
 
     ghost pools = { λ m. Some m.pools };
 
-    ghost told = { λ m. Some m.told };
+    ghost history = { λ m. Some m.history };
 
     fn begin(&mut self, unit: &Unit, run: u64) -> Result<(), NoMemory> {
-        push(&mut self.told, begin_entry(unit, run)?)
+        push(&mut self.history, begin_entry(unit, run)?)
     }
 
     fn run(&mut self, cmd: &Cmd) -> Answer {
         self.calls = self.calls.saturating_add(1);
-        let plan = Planned::find(self.failing.as_slice(), self.calls);
+        let plan = PlannedFailure::find(self.failing.as_slice(), self.calls);
         let answer = act(self.alloc, &mut self.pools, &mut self.faults, cmd, plan);
-        recorded(&mut self.told, cmd, answer)
+        recorded(&mut self.history, cmd, answer)
     }
 }

@@ -1,5 +1,5 @@
 ghost use Rattle.std.specs.Prelude.{◌≡◌, ℕ, [], ◌∷◌, List, Option, OnOk, OnErr};
-ghost use Rattle.zr_world.specs.Answering.{Acts, appended, Fits, HasCause, Logs};
+ghost use Rattle.zr_world.specs.Answering.{Acts, appended, IsReplyTo, HasCause, Logs};
 ghost use Rattle.zr_command.specs.Plain.{plain};
 ghost use Rattle.zr_command.specs.declared.command.Entry.{Entry as EntryValue};
 ghost use Rattle.zr_command.specs.declared.command.Entry.TheVariants.{Begin};
@@ -17,18 +17,18 @@ pub trait Zfs {
     ghost pools: { Self → Option PoolsValue };
 
     /// The record of begun runs and calls, where it is told.
-    ghost told: { Self → Option (List EntryValue) };
+    ghost history: { Self → Option (List EntryValue) };
 
     /// Begins a run of a unit under a run number: the calls up to the next `begin` belong to it.
     fn begin(&mut self, unit: &Unit, run: u64) -> Result<(), NoMemory>
         ensures faults { faults self.new ≡ faults self.old }
         ensures pools { pools self.new ≡ pools self.old }
-        ensures ok { OnOk result (told self.new ≡ appended (told self.old) (Begin unit.now run ∷ [])) }
-        ensures err { OnErr result (told self.new ≡ told self.old) };
+        ensures ok { OnOk result (history self.new ≡ appended (history self.old) (Begin unit.now run ∷ [])) }
+        ensures err { OnErr result (history self.new ≡ history self.old) };
 
     fn run(&mut self, cmd: &Cmd) -> Answer
         ensures cause { HasCause (faults self.old) (faults self.new) result }
-        ensures told { Logs (told self.old) (told self.new) (plain cmd.now) result }
+        ensures told { Logs (history self.old) (history self.new) (plain cmd.now) result }
         ensures pools { Acts cmd.now (pools self.old) (pools self.new) result }
-        ensures shape { Fits cmd.now result };
+        ensures shape { IsReplyTo cmd.now result };
 }

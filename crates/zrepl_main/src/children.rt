@@ -60,7 +60,7 @@ where
 {
     ghost faults = { λ s. s.faults };
 
-    ghost told = { λ _. None };
+    ghost history = { λ _. None };
 
     ghost pools = { λ _. None };
 

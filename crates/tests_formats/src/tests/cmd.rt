@@ -4,7 +4,7 @@
 use std::alloc::Global;
 use tests_lines::{Unread, ask_of, is_wanted, placed, shown, text, told};
 use tests_pools::command_of;
-use zr_cmd::{Argv, ArgvFault, Call, Words, argv_of, read_argv};
+use zr_cmd::{Argv, ArgvFault, ZfsCall, Words, argv_of, read_argv};
 use zr_command::{Cmd, VersionName};
 use zr_names::{JobName, MarkName, Path, SnapName, TagKind};
 
@@ -242,22 +242,22 @@ fn one_text(alloc: Global, cmd: &Cmd, line: &str) -> Result<String, Unread> {
     }
 }
 
-fn call_text(alloc: Global, call: &Call, line: &str) -> Result<String, Unread> {
+fn call_text(alloc: Global, call: &ZfsCall, line: &str) -> Result<String, Unread> {
     match call {
-        Call::One(cmd) => one_text(alloc, cmd, line),
-        Call::SendFull(set, snap) => named(alloc, "send", set, '@', snap.as_bytes()),
-        Call::SendFrom(set, mark, snap) => {
+        ZfsCall::One(cmd) => one_text(alloc, cmd, line),
+        ZfsCall::SendFull(set, snap) => named(alloc, "send", set, '@', snap.as_bytes()),
+        ZfsCall::SendFrom(set, mark, snap) => {
             let (from, to) = (('#', mark.as_bytes()), ('@', snap.as_bytes()));
             twice_named(alloc, ("send", set), from, to)
         }
-        Call::Receive(set, force) => {
+        ZfsCall::Receive(set, force) => {
             let how = if *force { " by force" } else { "" };
             Ok(format!(in alloc; "receive{how} {}", shown(set.as_bytes()))?)
         }
     }
 }
 
-fn read_text(alloc: Global, read: &Result<Call, ArgvFault>, line: &str) -> Result<String, Unread> {
+fn read_text(alloc: Global, read: &Result<ZfsCall, ArgvFault>, line: &str) -> Result<String, Unread> {
     match read {
         Ok(call) => call_text(alloc, call, line),
         Err(ArgvFault::UnknownCommand) => text(alloc, "unknown command"),

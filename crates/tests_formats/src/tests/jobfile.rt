@@ -3,7 +3,7 @@
 
 use std::alloc::Global;
 use tests_lines::{Unread, ask_of, bytes_of, column, is_wanted, shown, text, told};
-use zr_filter::{Entry, Filter};
+use zr_filter::{FilterEntry, Filter};
 use zr_jobfile::{JobFault, read_jobs};
 use zr_jobs::{Destination, Job, JobSet, RuleSpec};
 
@@ -227,7 +227,7 @@ fn file(alloc: Global, ask: &str) -> Result<Vec<u8>, Unread> {
     }
 }
 
-fn push_entry(out: &mut String, entry: &Entry) -> Result<(), Unread> {
+fn push_entry(out: &mut String, entry: &FilterEntry) -> Result<(), Unread> {
     out.push_str(if entry.allow { "; takes " } else { "; leaves " })?;
     if let Some(path) = &entry.path {
         out.push_str(shown(path.as_bytes()))?;

@@ -3,7 +3,7 @@
 
 use std::alloc::Global;
 use tests_lines::{Unread, answer, ask_of, bytes_of, fault, is_wanted, path, shown, text, told};
-use zr_filter::{Entry, Filter, matches, reaches, read_pattern};
+use zr_filter::{FilterEntry, Filter, matches, reaches, read_pattern};
 use zr_names::{NameFault, Rows};
 
 /// A filter has a sign before each pattern: `+` takes, `-` leaves.
@@ -106,19 +106,19 @@ read +\*a256;< => too long: 256
 +(nothing) matches tank => false
 +(nothing) reaches tank => false";
 
-fn entry(alloc: Global, text: &str) -> Result<Entry, NameFault> {
+fn entry(alloc: Global, text: &str) -> Result<FilterEntry, NameFault> {
     match text.strip_prefix('-') {
         Some(pattern) => read_pattern(alloc, pattern.as_bytes(), false),
         None => read_pattern(alloc, text.trim_start_matches('+').as_bytes(), true),
     }
 }
 
-fn push_entry(entries: &mut Rows<Entry>, alloc: Global, text: &str) -> Result<(), Unread> {
+fn push_entry(entries: &mut Rows<FilterEntry>, alloc: Global, text: &str) -> Result<(), Unread> {
     if text != "+(nothing)" {
         entries.push(entry(alloc, text)?)?;
         return Ok(());
     }
-    entries.push(Entry {
+    entries.push(FilterEntry {
         path: None,
         subtree: false,
         allow: true,
@@ -148,7 +148,7 @@ fn reaches_text(alloc: Global, list: &str, root: &str) -> Result<String, Unread>
     answer(alloc, reaches(&filter, &root))
 }
 
-fn entry_text(alloc: Global, entry: &Entry) -> Result<String, Unread> {
+fn entry_text(alloc: Global, entry: &FilterEntry) -> Result<String, Unread> {
     let sign = if entry.allow { "+" } else { "-" };
     let below = if entry.subtree { " and below" } else { "" };
     let name = match &entry.path {
@@ -158,7 +158,7 @@ fn entry_text(alloc: Global, entry: &Entry) -> Result<String, Unread> {
     Ok(format!(in alloc; "{sign}{name}{below}")?)
 }
 
-fn read_text(alloc: Global, read: &Result<Entry, NameFault>) -> Result<String, Unread> {
+fn read_text(alloc: Global, read: &Result<FilterEntry, NameFault>) -> Result<String, Unread> {
     match read {
         Ok(entry) => entry_text(alloc, entry),
         Err(why) => fault(alloc, *why),

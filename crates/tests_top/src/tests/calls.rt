@@ -11,7 +11,7 @@ use tests_pools::{before, changed, failing_of, shown};
 use zr_base::Bytes;
 use zr_exec::Line;
 use zr_model::MemSpawn;
-use zr_world::{Extent, Planned};
+use zr_world::{Extent, PlannedFailure};
 
 /// Calls that prune, or are refused.
 const PRUNES: &str = "\
@@ -267,12 +267,12 @@ fn push_call(text: &mut String, fails: &str, line: &Line) -> Result<(), AllocErr
     }
 }
 
-fn push_calls(text: &mut String, told: &[Line], failing: &[Planned]) -> Result<(), AllocError> {
+fn push_calls(text: &mut String, told: &[Line], failing: &[PlannedFailure]) -> Result<(), AllocError> {
     let mut number = 0_u64;
     for line in told {
         if !matches!(line, Line::Begin(_, _)) {
             number = number.saturating_add(1);
-            push_call(text, extent_word(Planned::find(failing, number)), line)?;
+            push_call(text, extent_word(PlannedFailure::find(failing, number)), line)?;
         }
     }
     Ok(())
@@ -298,7 +298,7 @@ fn text_after(alloc: Global, block: &str, ended: &Ended, child: &MemSpawn) -> Op
     let (words, file) = (given.words, given.file);
     let mut text = format!(in alloc; "{name}\n{before}\n{words} of {file}").ok()?;
     let failing = failing_of(alloc, block)?;
-    push_calls(&mut text, child.told(), failing.as_slice()).ok()?;
+    push_calls(&mut text, child.history(), failing.as_slice()).ok()?;
     drop(failing);
     let changed = changed(alloc, before, child.pools()).ok()?;
     let (status, printed) = (ended.status, ended.printed.as_str());

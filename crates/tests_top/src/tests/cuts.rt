@@ -7,7 +7,7 @@ use std::sync::Wait;
 use std::thread::Threads;
 use tests_pools::{before, changed, extent_of, number};
 use zr_model::MemSpawn;
-use zr_world::Planned;
+use zr_world::PlannedFailure;
 
 /// The pools; then for each call of the first step, which are the listings of the datasets, once each for the two units, and
 /// of the source, the step hold, the transfer, the cursor, the last-received hold and the release of the step hold: the
@@ -85,11 +85,11 @@ now 1000 txg 100 guid 100;b;b/c;b/c/tank;b/c/tank/a @s3:19[zrepl_last_received_J
   whole call 12 => status 5 now 1000 txg 101 guid 100;=;=;=;b/c/tank/a @s3:19 @s4:20:100:20[zrepl_last_received_J_p];=;tank/a @s4:20 #zrepl_CURSOR_G_0000000000000014_J_p:20;, then 0 nothing changed";
 
 /// The call that fails as the words say.
-fn failing_in(alloc: Global, ask: &str) -> Option<Vec<Planned>> {
+fn failing_in(alloc: Global, ask: &str) -> Option<Vec<PlannedFailure>> {
     let (extent, call) = extent_of(ask);
     let extent = extent?;
     let call = number(call.strip_prefix("call ")?)?;
-    vec![in alloc; Planned { call, extent }].ok()
+    vec![in alloc; PlannedFailure { call, extent }].ok()
 }
 
 /// What has changed in the pools once the first step is done, and once the increment is.

@@ -105,7 +105,7 @@ impl Spawn for Scripted {
 
     ghost faults = { λ s. s.faults };
 
-    ghost told = { λ s. None };
+    ghost history = { λ s. None };
 
     ghost pools = { λ s. None };
 

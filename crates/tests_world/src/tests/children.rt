@@ -131,7 +131,7 @@ fn last_text(alloc: Global, told: &[Line]) -> Option<String> {
 
 /// Adds the end of the record and what has changed in the pools.
 fn push_end(alloc: Global, text: &mut String, spawn: &MemSpawn, before: &str) -> Option<()> {
-    let (count, last) = (spawn.told().len(), last_text(alloc, spawn.told())?);
+    let (count, last) = (spawn.history().len(), last_text(alloc, spawn.history())?);
     let changed = changed(alloc, before, spawn.pools()).ok()?;
     write!(text, "\n{count} told, the last {last}\n{changed}").ok()
 }
@@ -188,7 +188,7 @@ impl Asked for Children {
             Some((send, receive)) => piped(alloc, &mut self.spawn, send, receive)?,
             None => ran(alloc, &mut self.spawn, ask)?,
         };
-        let told = last_text(alloc, self.spawn.told())?;
+        let told = last_text(alloc, self.spawn.history())?;
         format!(in alloc; "{exit}, told {told}").ok()
     }
 }

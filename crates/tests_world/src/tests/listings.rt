@@ -119,7 +119,7 @@ impl Spawn for Says {
 
     ghost faults = { λ s. s.faults };
 
-    ghost told = { λ _. None };
+    ghost history = { λ _. None };
 
     ghost pools = { λ _. None };
 

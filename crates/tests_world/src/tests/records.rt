@@ -107,7 +107,7 @@ struct Runner<'a> {
 impl Runner<'_> {
     /// What has changed, and the end of the record.
     fn state(&self, alloc: Global) -> Option<String> {
-        let told = self.zfs.told();
+        let told = self.zfs.history();
         let changed = changed(alloc, self.before, self.zfs.pools()).ok()?;
         let last = last_text(alloc, told)?;
         format!(in alloc; "{changed} {}: {last}", told.len()).ok()

@@ -9,7 +9,7 @@ use Rattle.zr_prune.proofs.destroy.Goals as goal
 
 pub run-requires-clause-allowed : goal.run-requires-clause-allowed
 run-requires-clause-allowed g c =
-    let now = sight g.Z.Zfs c.args.g.now in
+    let now = sight g.Z.Zfs c.args.unit.now in
     let names = c.args.names.now in
     let read = c.index-names-place.is ∙ get_or_default names c.args.place c.index-names-place.result [] c.requires.inside in
     let same = c.in-Ok.ensures ∙ ap (cmd.DestroySnap c.args.path.now) read in

@@ -24,7 +24,7 @@ loop-place-preserved g c =
             destroyed = w.destroyed-is ∙ w.saturating_add-destroyed.ensures ∙ ap (λ n. min (n + 1) (2 ^ 32 - 1)) inv.destroyed ∙ capped-more _ ∙ ap capped (sym counts.0);
             busy = w.busy-is ∙ inv.busy ∙ ap capped (sym counts.1);
             follows = λ base before. told.records base (inv.follows base before);
-            runner = does.runner ∙ inv.runner;
+            same_runner = does.same_runner ∙ inv.same_runner;
           }
       | in-Failed w ↦
           let told = w.in-Failed.ensures in
@@ -36,7 +36,7 @@ loop-place-preserved g c =
             destroyed = w.destroyed-is ∙ inv.destroyed ∙ ap capped (sym counts.0);
             busy = w.busy-is ∙ w.saturating_add-busy.ensures ∙ ap (λ n. min (n + 1) (2 ^ 32 - 1)) inv.busy ∙ capped-more _ ∙ ap capped (sym counts.1);
             follows = λ base before. told.records base (inv.follows base before);
-            runner = does.runner ∙ inv.runner;
+            same_runner = does.same_runner ∙ inv.same_runner;
           }
     ]
 

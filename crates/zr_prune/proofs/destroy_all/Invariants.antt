@@ -9,11 +9,11 @@ use Rattle.zr_prune.proofs.destroy_all.Given as goal
 -- the snapshots before this place were given for destruction, and counted
 abbrev pub invariant-loop-place : goal.invariant-loop-place
 invariant-loop-place g l = record {
-  went : Went (sight g.Z.Zfs l.fn.g) (sight g.Z.Zfs l.g);
-  memory : (sight g.Z.Zfs l.g).out_of_memory ≡ false;
-  pruning : IsPruning (sight g.Z.Zfs l.g) l.path l.names (take l.place l.names);
-  destroyed : l.destroyed ≡ capped (count_by (λ (t : Turn). is_done_destroy t.0 t.1) (sight g.Z.Zfs l.g).turns);
-  busy : l.busy ≡ capped (count_by (λ (t : Turn). is_failed_destroy t.0 t.1) (sight g.Z.Zfs l.g).turns);
-  follows : Follows (sight g.Z.Zfs l.fn.g) (sight g.Z.Zfs l.g);
-  runner : l.g.z.ghost_name ≡ l.fn.g.z.ghost_name;
+  went : Went (sight g.Z.Zfs l.fn.unit) (sight g.Z.Zfs l.unit);
+  memory : (sight g.Z.Zfs l.unit).out_of_memory ≡ false;
+  pruning : IsPruning (sight g.Z.Zfs l.unit) l.path l.names (take l.place l.names);
+  destroyed : l.destroyed ≡ capped (count_by (λ (t : Turn). is_done_destroy t.0 t.1) (sight g.Z.Zfs l.unit).turns);
+  busy : l.busy ≡ capped (count_by (λ (t : Turn). is_failed_destroy t.0 t.1) (sight g.Z.Zfs l.unit).turns);
+  follows : Follows (sight g.Z.Zfs l.fn.unit) (sight g.Z.Zfs l.unit);
+  same_runner : l.unit.runner.ghost_name ≡ l.fn.unit.runner.ghost_name;
 }

@@ -15,8 +15,8 @@ failed-undone e = cc
 garbled-undone : (line : ℕ) → told.Garbled line ≢ told.Done
 garbled-undone line e = cc
 
-short-undone : told.NoMemory ≢ told.Done
-short-undone e = cc
+memory-undone : told.NoMemory ≢ told.Done
+memory-undone e = cc
 
 pub out_of_memory-requires : goal.out_of_memory-requires
 out_of_memory-requires g c = record { at_work = begun-at-work _ c.requires.begun }
@@ -47,7 +47,7 @@ returns-in-Garbled-clause-ended g c =
 pub returns-clause-ended : goal.returns-clause-ended
 returns-clause-ended g c =
     let told = c.in-NoMemory.ensures in
-    listing-ended _ _ c.in-Ok.path _ _ c.requires.begun c.in-Ok.ensures c.list.ensures.went told.turns told.rose told.records short-undone c.ended-in-NoMemory.ensures
+    listing-ended _ _ c.in-Ok.path _ _ c.requires.begun c.in-Ok.ensures c.list.ensures.went told.turns told.rose told.records memory-undone c.ended-in-NoMemory.ensures
 
 pub returns-in-Done-clause-alone : goal.returns-in-Done-clause-alone
 returns-in-Done-clause-alone g c =

@@ -5,7 +5,7 @@ use Rattle.zr_permit.specs.declared.told.Told.TheVariants as told
 use Rattle.zr_permit.specs.Transcript.{Transcript}
 use Rattle.zr_permit.specs.Turned.{HasTurned}
 use Rattle.zr_permit.proofs.Ending.{at-work-more, begun-at-work, ended-on, turned-first}
-use Rattle.zr_snap.proofs.Ends.{failed-undone, garbled-undone, gives-same, scan-ended, short-undone}
+use Rattle.zr_snap.proofs.Ends.{failed-undone, garbled-undone, gives-same, scan-ended, memory-undone}
 use Rattle.zr_snap.proofs.scan.Goals as goal
 
 pub scan_done-requires-clause-at_work : goal.scan_done-requires-clause-at_work
@@ -37,4 +37,4 @@ returns-in-Garbled-clause-ended g c =
 pub returns-in-NoMemory-clause-ended : goal.returns-in-NoMemory-clause-ended
 returns-in-NoMemory-clause-ended g c =
     let told = c.in-NoMemory.ensures in
-    scan-ended _ _ _ _ c.requires.begun c.requires.kind c.list.ensures.went told.turns told.rose told.records short-undone c.ended-in-NoMemory.ensures
+    scan-ended _ _ _ _ c.requires.begun c.requires.kind c.list.ensures.went told.turns told.rose told.records memory-undone c.ended-in-NoMemory.ensures

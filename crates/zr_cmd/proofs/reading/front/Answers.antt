@@ -1,7 +1,7 @@
 use Rattle.std.proofs.Common.{◌≡◌, ◌∙◌, ap, ℕ, ◌+◌, ◌-◌, List, [], map, arith, subst, sym, inl, inr, get_or}
 use Rattle.std.proofs.lemmas.List.{get_or-map}
-use Rattle.zr_cmd.specs.Forms.{Fits, Pattern, a_path, pattern_of, word_at}
-use Rattle.zr_cmd.specs.Steps.{FitsAt, texts}
+use Rattle.zr_cmd.specs.Forms.{Suits, Pattern, a_path, pattern_of, word_at}
+use Rattle.zr_cmd.specs.Steps.{SuitsAt, texts}
 use Rattle.zr_cmd.specs.declared.forms.Part.{Part}
 use Rattle.zr_cmd.specs.declared.forms.Part.TheVariants as part
 use Rattle.zr_cmd.proofs.Longest.{le-or-lt}
@@ -16,10 +16,10 @@ loop-place-preserved c =
     let pattern = pattern_of (get_or c.args.parts.now place none) in
     let same : get_or patterns place a_path ≡ pattern = get_or-map pattern_of c.args.parts.now place none a_path (omega arith) in
     let before : c.word_at-before.result.now ≡ word_at words (place - 1) = c.word_at-before.ensures ∙ ap (word_at words) c.saturating_sub.ensures in
-    let fits : Fits pattern c.word_at-before.result.now c.word_at.result.now = c.in_ok-fits.ensures.0 (let yes = c.if-not-branch.false in cc) in
-    let here : FitsAt patterns words place = subst (λ (p : Pattern). Fits p (word_at words (place - 1)) (word_at words place)) (sym same)
-    (subst (λ (b : List ℕ). Fits pattern b (word_at words place)) before (subst (λ (w : List ℕ). Fits pattern c.word_at-before.result.now w) c.word_at.ensures fits)) in
+    let fits : Suits pattern c.word_at-before.result.now c.word_at.result.now = c.in_ok-fits.ensures.0 (let yes = c.if-not-branch.false in cc) in
+    let here : SuitsAt patterns words place = subst (λ (p : Pattern). Suits p (word_at words (place - 1)) (word_at words place)) (sym same)
+    (subst (λ (b : List ℕ). Suits pattern b (word_at words place)) before (subst (λ (w : List ℕ). Suits pattern c.word_at-before.result.now w) c.word_at.ensures fits)) in
     λ k inside. elim (le-or-lt (k + 1) place) [
       | inl below ↦ c.loop-place.invariant k (omega arith)
-      | inr last ↦ subst (λ (n : ℕ). FitsAt patterns words n) (omega arith) here
+      | inr last ↦ subst (λ (n : ℕ). SuitsAt patterns words n) (omega arith) here
     ]

@@ -20,13 +20,13 @@ pub loop-units-preserved : goal.loop-units-preserved
 loop-units-preserved g c =
     let inv = c.loop-units.invariant in
     let jobs = c.args.jobs.now in
-    let told = g.Z.Zfs.told in
+    let told = g.Z.Zfs.history in
     let is = c.in-Some.ensures.steps.0 in
     let ran = c.run_units.ensures in
-    let Ran : List Unit → Type 0 = λ units. Attempted jobs units (told c.loop-units.z) (told c.run_units.new.z) c.loop-units.tally.totals c.run_units.new.tally.totals in
+    let Ran : List Unit → Type 0 = λ units. Attempted jobs units (told c.loop-units.runner) (told c.run_units.new.runner) c.loop-units.tally.totals c.run_units.new.tally.totals in
     record {
       left = All-rest (All (IsDueUnit jobs)) c.in-Some.units _ _ is inv.left;
       ran = run-joined jobs c.args.found.items _ _ c.in-Some.units _ _ _ _ _ _ inv.ran is (subst Ran c.into_vec.ensures ran.ran);
       later = omega (arith, inv.later, ran.later);
-      rose = rose-then c.args.tally.now.totals c.loop-units.tally.totals c.run_units.new.tally.totals _ (g.Z.Zfs.faults c.loop-units.z) _ inv.later ran.later inv.rose ran.rose;
+      rose = rose-then c.args.tally.now.totals c.loop-units.tally.totals c.run_units.new.tally.totals _ (g.Z.Zfs.faults c.loop-units.runner) _ inv.later ran.later inv.rose ran.rose;
     }

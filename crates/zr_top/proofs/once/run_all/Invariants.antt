@@ -9,7 +9,7 @@ use Rattle.zr_top.proofs.once.run_all.Given as goal
 abbrev pub invariant-loop-units : goal.invariant-loop-units
 invariant-loop-units g l = record {
   left : All (All (IsDueUnit l.jobs)) (into_iter_items l.units-iterator);
-  ran : RunUpTo l.jobs (joined l.fn.found.items) (joined (into_iter_items l.units-iterator)) (g.Z.Zfs.told l.fn.z) (g.Z.Zfs.told l.z) l.fn.tally.totals l.tally.totals;
-  later : g.Z.Zfs.faults l.fn.z ≤ g.Z.Zfs.faults l.z;
-  rose : FaultsRose l.fn.tally.totals l.tally.totals (g.Z.Zfs.faults l.fn.z) (g.Z.Zfs.faults l.z);
+  ran : RunUpTo l.jobs (joined l.fn.found.items) (joined (into_iter_items l.units-iterator)) (g.Z.Zfs.history l.fn.runner) (g.Z.Zfs.history l.runner) l.fn.tally.totals l.tally.totals;
+  later : g.Z.Zfs.faults l.fn.runner ≤ g.Z.Zfs.faults l.runner;
+  rose : FaultsRose l.fn.tally.totals l.tally.totals (g.Z.Zfs.faults l.fn.runner) (g.Z.Zfs.faults l.runner);
 }

@@ -26,5 +26,5 @@ loop-unit-preserved g c =
       ran = run-more jobs _ _ _ c.in-Some.unit _ _ _ _ _ _ _ _ inv.ran is of_file c.next_run.ensures ran.ran c.count.ensures;
       later = omega (arith, inv.later, ran.later);
       rose =
-          rose-then c.args.tally.now.totals c.loop-unit.tally.totals c.count.new.self.totals _ (faults c.loop-unit.z) _ inv.later ran.later inv.rose (counted-rose c.run_unit-outcome.result c.loop-unit.tally.totals _ _ _ c.count.ensures ran.fault_rose);
+          rose-then c.args.tally.now.totals c.loop-unit.tally.totals c.count.new.self.totals _ (faults c.loop-unit.runner) _ inv.later ran.later inv.rose (counted-rose c.run_unit-outcome.result c.loop-unit.tally.totals _ _ _ c.count.ensures ran.fault_rose);
     }

@@ -12,7 +12,7 @@ pub loop-job-preserved : goal.loop-job-preserved
 loop-job-preserved g c =
     let inv = c.loop-job.invariant in
     let jobs = c.args.jobs.now in
-    let told = g.Z.Zfs.told in
+    let told = g.Z.Zfs.history in
     let faults = g.Z.Zfs.faults in
     let inside : c.loop-job.job < length jobs.jobs = search rules in
     let scan = c.run_scan-outcome.ensures in
@@ -21,7 +21,7 @@ loop-job-preserved g c =
     let now = c.push_reserved.new.self.items in
     let found_is : now ≡ old ++ units ∷ [] = c.push_reserved.ensures.items ∙ ap (λ us. old ++ us ∷ []) c.from_vec.ensures in
     let Due : List (List Unit) → Type 0 = All (All (IsDueUnit jobs)) in
-    let Ran : List (List Unit) → Type 0 = λ found. ScansRan jobs c.args.moment (c.loop-job.job + 1) (told c.args.z.now) (told c.run_scan-outcome.new.z) c.args.tally.now.totals c.count.new.self.totals found in
+    let Ran : List (List Unit) → Type 0 = λ found. ScansRan jobs c.args.moment (c.loop-job.job + 1) (told c.args.runner.now) (told c.run_scan-outcome.new.runner) c.args.tally.now.totals c.count.new.self.totals found in
     record {
       len = search rules;
       room = search rules;
@@ -29,5 +29,5 @@ loop-job-preserved g c =
       ran = subst Ran (sym found_is) (scanned-more jobs c.args.moment c.loop-job.job _ _ _ _ _ _ _ _ old units inside inv.ran scan.ran c.next_run.ensures c.count.ensures);
       later = omega (arith, inv.later, scan.later);
       rose =
-          rose-then c.args.tally.now.totals c.loop-job.tally.totals c.count.new.self.totals _ (faults c.loop-job.z) _ inv.later scan.later inv.rose (counted-rose c.run_scan-outcome.result.0 c.loop-job.tally.totals _ _ _ c.count.ensures scan.fault_rose);
+          rose-then c.args.tally.now.totals c.loop-job.tally.totals c.count.new.self.totals _ (faults c.loop-job.runner) _ inv.later scan.later inv.rose (counted-rose c.run_scan-outcome.result.0 c.loop-job.tally.totals _ _ _ c.count.ensures scan.fault_rose);
     }

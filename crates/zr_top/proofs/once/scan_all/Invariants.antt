@@ -11,7 +11,7 @@ invariant-loop-job g l = record {
   len : vec_len l.found ≡ l.job;
   room : length l.jobs.jobs ≤ vec_capacity l.found;
   found : All (All (IsDueUnit l.jobs)) l.found.items;
-  ran : ScansRan l.jobs l.moment l.job (g.Z.Zfs.told l.fn.z) (g.Z.Zfs.told l.z) l.fn.tally.totals l.tally.totals l.found.items;
-  later : g.Z.Zfs.faults l.fn.z ≤ g.Z.Zfs.faults l.z;
-  rose : FaultsRose l.fn.tally.totals l.tally.totals (g.Z.Zfs.faults l.fn.z) (g.Z.Zfs.faults l.z);
+  ran : ScansRan l.jobs l.moment l.job (g.Z.Zfs.history l.fn.runner) (g.Z.Zfs.history l.runner) l.fn.tally.totals l.tally.totals l.found.items;
+  later : g.Z.Zfs.faults l.fn.runner ≤ g.Z.Zfs.faults l.runner;
+  rose : FaultsRose l.fn.tally.totals l.tally.totals (g.Z.Zfs.faults l.fn.runner) (g.Z.Zfs.faults l.runner);
 }

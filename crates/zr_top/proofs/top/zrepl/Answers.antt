@@ -4,7 +4,7 @@ use Rattle.std.specs.List.{Contains}
 use Rattle.std.specs.Prelude.{codes}
 use Rattle.zr_top.specs.Records.{is_silent}
 use Rattle.zr_top.specs.Status.{is_idle}
-use Rattle.zr_top.proofs.Promises.{fault-code, no-command, sound-codes, unread-code, unwritable-code, usage-caused, usage-code}
+use Rattle.zr_top.proofs.Outcomes.{fault-code, no-command, sound-codes, unread-code, unwritable-code, usage-caused, usage-code}
 use Rattle.zr_top.proofs.Refusing.{asks-named, job_file-code, read-not-refused, refused-codes, same-file}
 use Rattle.zr_top.proofs.Recording.{ran-named, usage-codes}
 use Rattle.zr_top.proofs.top.zrepl.Goals as goal

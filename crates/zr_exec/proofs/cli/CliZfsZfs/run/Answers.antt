@@ -12,7 +12,7 @@ pub returns-in-Ok-One-clause-told : goal.returns-in-Ok-One-clause-told
 returns-in-Ok-One-clause-told g c =
     let is : IsAnswer (listed_by c.args.cmd.now) c.run-exit.result c.run-exit.new.out.items c.answer.result =
     subst (λ (bytes : List ℕ). IsAnswer (listed_by c.args.cmd.now) c.run-exit.result bytes c.answer.result) c.as_slice-in-Ok-One.ensures.value c.answer.ensures.answer in
-    run_logs _ _ _ _ _ _ _ _ _ _ (ap (λ (before : Running g.row.S.Denot). before.program) c.self.view_is) (ap (λ (before : Running g.row.S.Denot). g.S.Spawn.told before.children) c.self.view_is)
+    run_logs _ _ _ _ _ _ _ _ _ _ (ap (λ (before : Running g.row.S.Denot). before.program) c.self.view_is) (ap (λ (before : Running g.row.S.Denot). g.S.Spawn.history before.children) c.self.view_is)
     (one_started _ _ _ _ _ c.as_str.ensures.value c.as_slice.ensures (sym c.in-Ok-One.field-0-is ∙ c.in-Ok-One.ensures.words) c.in-Ok-One.ensures.named) c.run-exit.ensures.told is
 
 pub returns-in-Ok-One-clause-pools : goal.returns-in-Ok-One-clause-pools
@@ -24,7 +24,7 @@ returns-in-Ok-One-clause-pools g c =
 
 pub returns-in-Ok-Pipe-clause-told : goal.returns-in-Ok-Pipe-clause-told
 returns-in-Ok-Pipe-clause-told g c =
-    pipe_logs _ _ _ _ _ _ _ _ _ _ (ap (λ (before : Running g.row.S.Denot). before.program) c.self.view_is) c.piped.ensures (ap (λ (before : Running g.row.S.Denot). g.S.Spawn.told before.children) c.self.view_is)
+    pipe_logs _ _ _ _ _ _ _ _ _ _ (ap (λ (before : Running g.row.S.Denot). before.program) c.self.view_is) c.piped.ensures (ap (λ (before : Running g.row.S.Denot). g.S.Spawn.history before.children) c.self.view_is)
     (starts _ _ _ _ _ _ _ c.as_str.ensures.value c.as_slice-in-Ok-Pipe.ensures c.as_slice-in-Ok-Pipe-2.ensures (sym c.in-Ok-Pipe.field-0-is ∙ c.in-Ok-Pipe.ensures.words) c.in-Ok-Pipe.ensures.named) c.pipe.ensures.told
 
 pub returns-in-Ok-Pipe-clause-pools : goal.returns-in-Ok-Pipe-clause-pools

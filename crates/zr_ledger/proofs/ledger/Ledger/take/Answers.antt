@@ -1,5 +1,5 @@
 use Rattle.std.proofs.Common.{◌≡◌, List, None, Some, ap, rules, subst, sym, ◌∙◌, false}
-use Rattle.zr_ledger.specs.Kept.{Keeps, Seen}
+use Rattle.zr_ledger.specs.Kept.{IsKept, Seen}
 use Rattle.zr_ledger.specs.Out.{Out}
 use Rattle.zr_ledger.specs.Ready.{first_ready}
 use Rattle.zr_ledger.specs.Steps.{standing}
@@ -23,7 +23,7 @@ returns-in-None-clause-starts g c = λ some none left.
     let s : State = c.args.self.now.state in
     let same = ap (λ (seen : Seen). seen.state) c.self.view_is in
     let unready : first_ready s.limits s.waiting s.outs ≡ None = search rules in
-    absurd (waits-for-none s (subst Keeps same c.self.invariant.keeps) unready none some)
+    absurd (waits-for-none s (subst IsKept same c.self.invariant.keeps) unready none some)
 
 pub returns-in-None-clause-ended : goal.returns-in-None-clause-ended
 returns-in-None-clause-ended g c =
@@ -32,6 +32,6 @@ returns-in-None-clause-ended g c =
     let unready : first_ready s.limits s.waiting s.outs ≡ None = search rules in
     let left : is_spent s ≡ false = search rules in
     let answer : c.idle.result ≡ idle c.args.self.now.clock s.outs = search rules in (
-      over-by s c.args.self.now.clock c.idle.result (subst Keeps same c.self.invariant.keeps) unready answer,
+      over-by s c.args.self.now.clock c.idle.result (subst IsKept same c.self.invariant.keeps) unready answer,
       ended-by s c.args.self.now.clock c.idle.result left answer,
     )

@@ -1,6 +1,6 @@
 use Rattle.std.proofs.Common.{rules}
 use Rattle.zr_permit.specs.declared.told.Told.TheVariants as told
-use Rattle.zr_replicate.proofs.Turning.{ended-turn, failed-undone, garbled-undone, knows-more, short-undone}
+use Rattle.zr_replicate.proofs.Turning.{ended-turn, failed-undone, garbled-undone, knows-more, memory-undone}
 use Rattle.zr_replicate.proofs.replication.Replication.give.Goals as goal
 
 pub returns-in-Ok-clause-stage : goal.returns-in-Ok-clause-stage
@@ -26,4 +26,4 @@ returns-in-Garbled-clause-stage g c =
 pub returns-in-NoMemory-clause-stage : goal.returns-in-NoMemory-clause-stage
 returns-in-NoMemory-clause-stage g c =
     let run = c.in-NoMemory.ensures in
-    ended-turn _ _ _ c.args.cmd told.NoMemory _ c.requires.at_work (search rules) run.went run.turns run.rose run.records short-undone c.ended-in-NoMemory.ensures
+    ended-turn _ _ _ c.args.cmd told.NoMemory _ c.requires.at_work (search rules) run.went run.turns run.rose run.records memory-undone c.ended-in-NoMemory.ensures

@@ -17,8 +17,8 @@ short command before after Failed does = does
 short command before after (Garbled line) does = does
 short command before after NoMemory does = does
 
-answers-recorded : (command shown : Cmd) (before old after : Pools) (told now : List Entry) (answer given : Answer) → before ≡ old → Answers command before after answer → Recorded told now shown answer given → AnswersWords command old after given
-answers-recorded command shown before old after told now answer given same does recorded =
+answers-recorded : (command shown : Cmd) (before old after : Pools) (history now : List Entry) (answer given : Answer) → before ≡ old → Answers command before after answer → Recorded history now shown answer given → AnswersWords command old after given
+answers-recorded command shown before old after history now answer given same does recorded =
     subst (λ (pools : Pools). AnswersWords command pools after given) same
     (inl (elim recorded [
       | inl kept ↦ subst (Answers command before after) (sym kept.1) does

@@ -10,7 +10,7 @@ use Rattle.zr_permit.proofs.Honest.{legal-honest}
 use Rattle.zr_top.specs.declared.status.Status.{Status}
 use Rattle.zr_top.specs.declared.status.Status.TheVariants as status
 use Rattle.zr_top.specs.Attempts.{Attempt, EndsWell, IsGood}
-use Rattle.zr_top.specs.Promises.{AllFinished, AllHonest, Destroys, FinishedOr, is_fault_or_garbled, is_finished, Means}
+use Rattle.zr_top.specs.Outcomes.{AllFinished, AllHonest, Destroys, FinishedOr, is_fault_or_garbled, is_finished, Means}
 use Rattle.zr_top.specs.Status.{code_of, is_conflict_or_too_long, is_garbled, Printed, some_ended, status_of_runs}
 use Rattle.zr_top.proofs.Ending.{first_of}
 
