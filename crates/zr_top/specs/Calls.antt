@@ -34,8 +34,8 @@ abbrev pub edges : ℕ → Option (List ℕ) → Asked → View → Edges
 edges read_faults unread asked view =
     record { read_faults = read_faults; unread = unread; asked = asked; view = view }
 
-abbrev pub call : List (List ℕ) → (List ℕ → Option (List ℕ)) → Option (List ℕ) → Edges → Edges → ℕ → Given
-call words content moments before after status = record {
+abbrev pub given : List (List ℕ) → (List ℕ → Option (List ℕ)) → Option (List ℕ) → Edges → Edges → ℕ → Given
+given words content moments before after status = record {
   words = words;
   content = content;
   moments = moments;
