@@ -12,7 +12,7 @@ ghost use Rattle.zr_command.specs.declared.version.VersionName.TheVariants.{Mark
 
 use crate::serving::read_call;
 use std::alloc::Global;
-use zr_cmd::Call;
+use zr_cmd::ZfsCall;
 use zr_command::{Answer, Base, Cmd, Transfer};
 use zr_exec::PipeExit;
 use zr_names::{Guid, MarkName, NoMemory, Path, SnapName};
