@@ -1,13 +1,15 @@
-ghost use Rattle.std.specs.Prelude.{◌≡◌, [], ◌∷◌, ◌++◌, ℕ, List, IfOk, IfErr, IsErrOf};
+ghost use Rattle.std.specs.Prelude.{◌≡◌, [], ◌∷◌, ◌++◌, ℕ, List, IfOk, IfErr, IsErrOf, OnOk, cond, not, true};
 ghost use Rattle.zr_listing.specs.Lines.{IsBadAt, Lines, NamesDiffer};
 ghost use Rattle.zr_listing.specs.Steps.{Begins, BeginsBad};
 ghost use Rattle.zr_listing.specs.declared.faults.LineFault.TheVariants.{Bad};
 ghost use Rattle.zr_listing.specs.Reading.{ReadsOr};
+ghost use Rattle.zr_listing.specs.Met.{was_met};
+ghost use Rattle.zr_listing.specs.Names.{ties};
 
 use crate::columns::cut;
 use crate::faults::{LineFault, ListFault};
 use crate::names::Names;
-use std::alloc::Global;
+use std::alloc::{AllocError, Global};
 
 /// One kind of listing.
 pub(crate) trait Kind {
@@ -56,6 +58,24 @@ fn first_row<'a, K: Kind>(
     })
 }
 
+/// Adds a row, if its name was not met before, and tells whether it was not.
+fn push_row<'a, R: Drop>(
+    rows: &mut Vec<R>,
+    names: &mut Names<'a>,
+    row: R,
+    name: &'a [u8],
+) -> Result<bool, AllocError>
+    ensures added { IfOk result (λ added. added ≡ not (was_met names.old name.now)) }
+    ensures met { OnOk result ((q : List ℕ) → was_met names.new q ≡ cond (ties name.now q) true (was_met names.old q)) }
+    ensures row { IfOk result (λ added. added ≡ true → rows.new.items ≡ rows.old.items ++ row ∷ []) }
+{
+    if !names.insert(name)? {
+        return Ok(false);
+    }
+    rows.push(row)?;
+    Ok(true)
+}
+
 /// Reads the rows of a listing, a line for each.
 pub(crate) fn read_lines<K: Kind>(
     alloc: Global,
@@ -73,10 +93,9 @@ pub(crate) fn read_lines<K: Kind>(
         let number = rows.len() as u64 + 1;
         match first_row(alloc, kind, rest) {
             Ok(FirstRow { row, name, after }) => {
-                if !names.insert(name)? {
+                if !push_row(&mut rows, &mut names, row, name)? {
                     return Err(ListFault::Garbled(number));
                 }
-                rows.push(row)?;
                 rest = after;
             }
             Err(LineFault::Bad) => return Err(ListFault::Garbled(number)),
