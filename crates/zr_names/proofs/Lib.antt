@@ -3,3 +3,4 @@ pub mod MarkKinds
 pub mod MarkNames
 pub mod Parts
 pub mod Unique
+pub mod Trees

@@ -3,3 +3,4 @@ pub mod Hex
 pub mod Marks
 pub mod Names
 pub mod Totals
+pub mod Tree

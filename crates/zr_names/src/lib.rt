@@ -4,6 +4,7 @@
 pub use marks::{MarkKind, TagKind, cursor_name, is_tag, mark_of, tag_of, tentative_name};
 pub use moment::Moment;
 pub use names::{JobName, MarkName, Path, Prefix, SnapName, Tag, TokenText};
+pub use node::{Node, NodePair, NodeText};
 pub use outcome::Outcome;
 pub use policy::{Initial, Protection};
 pub use reading::{
@@ -19,6 +20,7 @@ pub mod laws;
 pub mod marks;
 pub mod moment;
 pub mod names;
+pub mod node;
 pub mod outcome;
 pub mod policy;
 pub mod reading;

@@ -1,0 +1,7 @@
+pub mod Scan
+pub mod Scalar
+pub mod Symbols
+pub mod Lines
+pub mod Document
+pub mod Reading
+pub mod Views
