@@ -11,7 +11,7 @@ use crate::cutting::{
     is_full, is_job_tag, is_path, is_same_set, job_of, job_part, kind_part, mark_of, name_part,
     path_of, set_part, snap_of, word_at,
 };
-use crate::forms::{ZfsCall, FORMS, Form, Part};
+use crate::forms::{FORMS, Form, Part, ZfsCall};
 use std::alloc::Global;
 use zr_command::{Cmd, VersionName};
 use zr_names::{JobName, MarkName, NoMemory, Path, SnapName, TagKind};

@@ -13,7 +13,7 @@ use crate::push_shape::{PushParts, SinkParts, push_file_parts};
 use crate::snap_shape::file_parts;
 use std::alloc::{AllocError, Global};
 use toml::Table;
-use zr_filter::{FilterEntry, Filter, reaches, read_pattern};
+use zr_filter::{Filter, FilterEntry, reaches, read_pattern};
 use zr_jobs::{Destination, Identity, IdentityFault, Job, JobSet, RuleSpec, read_identity};
 use zr_names::{JobName, NameFault, Path, Rows, read_job, read_path};
 
@@ -59,7 +59,12 @@ fn entry(alloc: Global, text: &str) -> Result<FilterEntry, JobFault>
 }
 
 /// A job set of this one job.
-fn one_job(alloc: Global, name: JobName, entry: FilterEntry, count: u32) -> Result<JobSet, AllocError>
+fn one_job(
+    alloc: Global,
+    name: JobName,
+    entry: FilterEntry,
+    count: u32,
+) -> Result<JobSet, AllocError>
     ensures { IfOk result (λ jobs. jobs ≡ one_job name entry count) }
 {
     let mut entries = Rows::new(alloc);

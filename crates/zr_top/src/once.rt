@@ -72,7 +72,13 @@ fn scan_all<Z: Zfs>(
 }
 
 /// Runs some units in their order.
-fn run_units<Z: Zfs>(alloc: Global, jobs: &JobSet, units: Vec<Unit>, tally: &mut Tally, runner: &mut Z)
+fn run_units<Z: Zfs>(
+    alloc: Global,
+    jobs: &JobSet,
+    units: Vec<Unit>,
+    tally: &mut Tally,
+    runner: &mut Z,
+)
     requires { All (IsDueUnit jobs.now) units.items }
     ensures ran { Attempted jobs.now units.items (Z.history runner.old) (Z.history runner.new)
         tally.old.totals tally.new.totals }

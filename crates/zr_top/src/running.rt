@@ -72,7 +72,13 @@ fn work<Z: Zfs>(alloc: Global, unit: &mut Guarded<'_, Z>) -> Outcome
 }
 
 /// Runs a unit that a scan gave.
-pub fn run_unit<Z: Zfs>(alloc: Global, jobs: &JobSet, unit: Unit, run: u64, runner: &mut Z) -> Outcome
+pub fn run_unit<Z: Zfs>(
+    alloc: Global,
+    jobs: &JobSet,
+    unit: Unit,
+    run: u64,
+    runner: &mut Z,
+) -> Outcome
     requires { IsDueUnit jobs.now unit }
     ensures ran { Ran jobs.now unit run (Z.history runner.old) (Z.history runner.new) result }
     ensures later { Z.faults runner.old ≤ Z.faults runner.new }

@@ -4,7 +4,7 @@
 use std::alloc::Global;
 use tests_lines::{Unread, ask_of, is_wanted, placed, shown, text, told};
 use tests_pools::command_of;
-use zr_cmd::{Argv, ArgvFault, ZfsCall, Words, argv_of, read_argv};
+use zr_cmd::{Argv, ArgvFault, Words, ZfsCall, argv_of, read_argv};
 use zr_command::{Cmd, VersionName};
 use zr_names::{JobName, MarkName, Path, SnapName, TagKind};
 
@@ -257,7 +257,11 @@ fn call_text(alloc: Global, call: &ZfsCall, line: &str) -> Result<String, Unread
     }
 }
 
-fn read_text(alloc: Global, read: &Result<ZfsCall, ArgvFault>, line: &str) -> Result<String, Unread> {
+fn read_text(
+    alloc: Global,
+    read: &Result<ZfsCall, ArgvFault>,
+    line: &str,
+) -> Result<String, Unread> {
     match read {
         Ok(call) => call_text(alloc, call, line),
         Err(ArgvFault::UnknownCommand) => text(alloc, "unknown command"),

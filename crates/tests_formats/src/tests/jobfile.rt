@@ -3,7 +3,7 @@
 
 use std::alloc::Global;
 use tests_lines::{Unread, ask_of, bytes_of, column, is_wanted, shown, text, told};
-use zr_filter::{FilterEntry, Filter};
+use zr_filter::{Filter, FilterEntry};
 use zr_jobfile::{JobFault, read_jobs};
 use zr_jobs::{Destination, Job, JobSet, RuleSpec};
 

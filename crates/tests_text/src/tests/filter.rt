@@ -3,7 +3,7 @@
 
 use std::alloc::Global;
 use tests_lines::{Unread, answer, ask_of, bytes_of, fault, is_wanted, path, shown, text, told};
-use zr_filter::{FilterEntry, Filter, matches, reaches, read_pattern};
+use zr_filter::{Filter, FilterEntry, matches, reaches, read_pattern};
 use zr_names::{NameFault, Rows};
 
 /// A filter has a sign before each pattern: `+` takes, `-` leaves.

@@ -267,12 +267,20 @@ fn push_call(text: &mut String, fails: &str, line: &Line) -> Result<(), AllocErr
     }
 }
 
-fn push_calls(text: &mut String, told: &[Line], failing: &[PlannedFailure]) -> Result<(), AllocError> {
+fn push_calls(
+    text: &mut String,
+    told: &[Line],
+    failing: &[PlannedFailure],
+) -> Result<(), AllocError> {
     let mut number = 0_u64;
     for line in told {
         if !matches!(line, Line::Begin(_, _)) {
             number = number.saturating_add(1);
-            push_call(text, extent_word(PlannedFailure::find(failing, number)), line)?;
+            push_call(
+                text,
+                extent_word(PlannedFailure::find(failing, number)),
+                line,
+            )?;
         }
     }
     Ok(())
