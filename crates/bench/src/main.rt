@@ -7,11 +7,12 @@ mod listing;
 mod relay;
 mod rules;
 mod schedule;
+mod yaml;
 
 use std::process::ExitCode;
 use std::{env, io};
 
-const USAGE: &str = "usage: bench relay|pipe|listing|schedule|ledger|rules";
+const USAGE: &str = "usage: bench relay|pipe|listing|schedule|ledger|rules|yaml";
 
 /// Runs the benchmark of the first word, and returns the program's status.
 fn run(rt: &HostRuntime) -> io::Result<u8> {
@@ -23,6 +24,7 @@ fn run(rt: &HostRuntime) -> io::Result<u8> {
         Some("schedule") => schedule::find_minutes(rt)?,
         Some("ledger") => ledger::turn_ledger(rt)?,
         Some("rules") => rules::keep_rows(rt)?,
+        Some("yaml") => yaml::read_text(rt)?,
         _ => {
             println!(rt; "{USAGE}")?;
             return Ok(2);

@@ -256,6 +256,8 @@ jobs:\n- name: p\n\s\sname: q => line 3
 a: 1\nb: {\nc: 2,\nd: 3\ne: 4} => line 5
 a: 1\n\n\x23 x\nb: : => line 4
 ---\na: 1\na: 2 => line 3
+# a job file of two jobs
+jobs:\n- name: p\n\s\stype: push\n\s\sconnect: {type: local, listener_name: l, client_identity: c}\n\s\sfilesystems: {\n\s\s\s\s"tank/a": true,\s\s\s\x23 one\n\s\s}\n\s\ssnapshotting:\n\s\s\s\stype: manual\n\s\spruning: {keep_sender: [], keep_receiver: []}\n- name: k\n\s\stype: sink\n\s\sroot_fs: b\n\s\sserve:\n\s\s\s\stype: local\n\s\s\s\slistener_name: 'l'\n => {"jobs": [{"name": "p", "type": "push", "connect": {"type": "local", "listener_name": "l", "client_identity": "c"}, "filesystems": {"tank/a": true}, "snapshotting": {"type": "manual"}, "pruning": {"keep_sender": [], "keep_receiver": []}}, {"name": "k", "type": "sink", "root_fs": "b", "serve": {"type": "local", "listener_name": "l"}}]}
 "#;
 
 fn put(out: &mut String, text: &str) -> Result<(), Unread> {

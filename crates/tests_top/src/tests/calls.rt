@@ -151,7 +151,7 @@ once f of push tank/a
   zfs release zrepl_STEP_J_p tank/a@s4
 due=2 done=2 coalesced=0 taken=0 fresh=0 steps=1 uptodate=0 conflicts=0 destroyed=0 busy=0 placeholders=0 toolong=0 faults=0 garbled=0 nomemory=0
 status 0
-now 1000 txg 101 guid 100;=;=;=;b/c/tank/a @s4:19:100:19[zrepl_last_received_J_p];=;tank/a @s1:17 @s3:19:18:18 @s4:19 #zrepl_CURSOR_G_0000000000000013_J_p:19:18:18;
+now 1000 txg 101 guid 100;=;=;=;b/c/tank/a @s4:19:100:19[zrepl_last_received_J_p];=;tank/a @s1:17 @s3:19:18:18 #zrepl_CURSOR_G_0000000000000013_J_p:19:18:18 @s4:19;
 
 nothing_follows_the_first_step
 now 1000 txg 100 guid 100;b;b/c;b/c/tank;b/c/tank/a @s3:19[zrepl_last_received_J_p];tank;tank/a @s1:17 @s2:18 @s3:19 #zrepl_CURSOR_G_0000000000000013_J_p:19;
