@@ -3,7 +3,7 @@ pub mod Numbers
 pub mod Trimmed
 pub mod Within
 pub mod Pieces
-pub mod Pairs
+pub mod KeySets
 pub mod Cutting
 pub mod Bounds
 pub mod Running

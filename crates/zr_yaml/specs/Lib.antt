@@ -3,5 +3,6 @@ pub mod Scalar
 pub mod Symbols
 pub mod Lines
 pub mod Document
+pub mod Keyed
 pub mod Reading
 pub mod Views

@@ -11,11 +11,11 @@ use Rattle.zr_yaml.specs.Reading.{Frame, dashes, keys, items, pairs, named, valu
 
 abbrev pub frame_view : code.Frame → Frame
 frame_view (case.Dashes column done) = dashes column (map tree done.items)
-frame_view (case.Keys column done key) = keys column (map pair_tree done.items) key
+frame_view (case.Keys column done key) = keys column (map pair_tree done.pairs.items) key
 frame_view (case.Items done) = items (map tree done.items)
-frame_view (case.Pairs done) = pairs (map pair_tree done.items)
-frame_view (case.Named done key) = named (map pair_tree done.items) key
-frame_view (case.Valued done key) = valued (map pair_tree done.items) key
+frame_view (case.Pairs done) = pairs (map pair_tree done.pairs.items)
+frame_view (case.Named done key) = named (map pair_tree done.pairs.items) key
+frame_view (case.Valued done key) = valued (map pair_tree done.pairs.items) key
 
 abbrev pub step_view : code_step.Step → Step
 step_view (does.Stay frame slot) = stay (frame_view frame) (option_map tree slot)

@@ -1,19 +1,17 @@
 //! Maps and sequences that are not complete. Apart from the reader, which has a stack of them.
 
 ghost use Rattle.std.specs.Prelude.{◌≡◌, ◌++◌, ◌∷◌, [], map};
-ghost use Rattle.std.specs.List.{list_any};
 ghost use Rattle.std.specs.Option.{option_map};
-ghost use Rattle.std.specs.Str.{bytes_eq};
 ghost use Rattle.zr_names.specs.Tree.{pair_tree, tree};
 ghost use Rattle.zr_yaml.specs.Scan.{Gives, GivesAll};
-ghost use Rattle.zr_yaml.specs.Document.{has_pair};
 ghost use Rattle.zr_yaml.specs.Reading.{after_item, after_pair, items_step, named_step, opened, pairs_step, tree_or_null, value_step, valued_step};
 ghost use Rattle.zr_yaml.specs.Views.{frame_view, step_view};
 
 use crate::fault::Stop;
+use crate::keyed::Keyed;
 use crate::symbols::{Bracket, Piece};
 use std::alloc::Global;
-use zr_names::node::{Node, NodePair, NodeText};
+use zr_names::node::{Node, NodeText};
 
 /// A map or a sequence that is not complete, with the parts that are.
 #[derive(Drop)]
@@ -21,15 +19,15 @@ pub(crate) enum Frame {
     /// Dashes at a column. The last one's node is to come.
     Dashes(usize, Vec<Node>),
     /// Keys at a column. The node of this last one is to come.
-    Keys(usize, Vec<NodePair>, NodeText),
+    Keys(usize, Keyed, NodeText),
     /// `[`
     Items(Vec<Node>),
     /// `{`, where a key is to come.
-    Pairs(Vec<NodePair>),
+    Pairs(Keyed),
     /// `{`, where a colon is to come behind this key.
-    Named(Vec<NodePair>, NodeText),
+    Named(Keyed, NodeText),
     /// `{`, where the value of this key is to come.
-    Valued(Vec<NodePair>, NodeText),
+    Valued(Keyed, NodeText),
 }
 
 /// What a piece does to the innermost frame.
@@ -46,7 +44,7 @@ pub(crate) fn opened(alloc: Global, kind: Bracket) -> Frame
     ensures { frame_view result ≡ opened kind }
 {
     match kind {
-        Bracket::Curly => Frame::Pairs(Vec::new(alloc)),
+        Bracket::Curly => Frame::Pairs(Keyed::new(alloc)),
         Bracket::Square => Frame::Items(Vec::new(alloc)),
     }
 }
@@ -60,26 +58,6 @@ pub(crate) fn node_or_null(slot: Option<Node>) -> Node
     }
 }
 
-fn has_key(pair: &NodePair, key: &[u8]) -> bool
-    ensures { result ≡ bytes_eq key.now (pair_tree pair.now).0 }
-{
-    key == pair.key.as_bytes()
-}
-
-fn any_has_key(pairs: &[NodePair], key: &[u8]) -> bool
-    ensures { result ≡ list_any (λ pair. bytes_eq key.now (pair_tree pair).0) pairs.now }
-{
-    pairs.iter().any(|pair| has_key(pair, key))
-}
-
-/// One of the pairs has this key.
-#[tactic(auto, using(crate::proofs::Pairs::any_mapped))]
-pub(crate) fn has_pair(pairs: &[NodePair], key: &[u8]) -> bool
-    ensures { result ≡ has_pair key.now (map pair_tree pairs.now) }
-{
-    any_has_key(pairs, key)
-}
-
 /// The nodes and one more.
 pub(crate) fn with_node(nodes: Vec<Node>, node: Node) -> Result<Vec<Node>, Stop>
     ensures { GivesAll (λ v. map tree v.items) result (map tree nodes.items ++ tree node ∷ []) }
@@ -87,19 +65,6 @@ pub(crate) fn with_node(nodes: Vec<Node>, node: Node) -> Result<Vec<Node>, Stop>
     let mut nodes = nodes;
     nodes.push(node)?;
     Ok(nodes)
-}
-
-/// The pairs and one more.
-pub(crate) fn with_pair(
-    pairs: Vec<NodePair>,
-    key: NodeText,
-    node: Node,
-) -> Result<Vec<NodePair>, Stop>
-    ensures { GivesAll (λ v. map pair_tree v.items) result (map pair_tree pairs.items ++ (key, tree node) ∷ []) }
-{
-    let mut pairs = pairs;
-    pairs.push(NodePair::new(key, node))?;
-    Ok(pairs)
 }
 
 /// A value is to come.
@@ -142,23 +107,23 @@ fn items_step(
     }
 }
 
-fn pairs_step(done: Vec<NodePair>, piece: Piece) -> Result<Step, Stop>
-    ensures { Gives step_view result (pairs_step (map pair_tree done.items) piece) }
+fn pairs_step(done: Keyed, piece: Piece) -> Result<Step, Stop>
+    ensures { Gives step_view result (pairs_step (map pair_tree done.pairs.items) piece) }
 {
     match piece {
         Piece::One(one) => {
-            if has_pair(done.as_slice(), one.bytes.as_slice()) {
+            if done.has(&one.bytes) {
                 return Err(Stop::Bad);
             }
             Ok(Step::Stay(Frame::Named(done, NodeText::new(one.bytes)), None))
         }
-        Piece::Close(Bracket::Curly) => Ok(Step::Filled(Node::map(done))),
+        Piece::Close(Bracket::Curly) => Ok(Step::Filled(done.into_node())),
         _ => Err(Stop::Bad),
     }
 }
 
-fn named_step(done: Vec<NodePair>, key: NodeText, piece: Piece) -> Result<Step, Stop>
-    ensures { Gives step_view result (named_step (map pair_tree done.items) key piece) }
+fn named_step(done: Keyed, key: NodeText, piece: Piece) -> Result<Step, Stop>
+    ensures { Gives step_view result (named_step (map pair_tree done.pairs.items) key piece) }
 {
     match piece {
         Piece::Colon => Ok(Step::Stay(Frame::Valued(done, key), None)),
@@ -166,28 +131,28 @@ fn named_step(done: Vec<NodePair>, key: NodeText, piece: Piece) -> Result<Step, 
     }
 }
 
-fn after_pair(done: Vec<NodePair>, piece: Piece) -> Result<Step, Stop>
-    ensures { Gives step_view result (after_pair (map pair_tree done.items) piece) }
+fn after_pair(done: Keyed, piece: Piece) -> Result<Step, Stop>
+    ensures { Gives step_view result (after_pair (map pair_tree done.pairs.items) piece) }
 {
     match piece {
         Piece::Comma => Ok(Step::Stay(Frame::Pairs(done), None)),
-        Piece::Close(Bracket::Curly) => Ok(Step::Filled(Node::map(done))),
+        Piece::Close(Bracket::Curly) => Ok(Step::Filled(done.into_node())),
         _ => Err(Stop::Bad),
     }
 }
 
 fn valued_step(
     alloc: Global,
-    done: Vec<NodePair>,
+    done: Keyed,
     key: NodeText,
     slot: Option<Node>,
     piece: Piece,
 ) -> Result<Step, Stop>
     ensures { Gives step_view result
-        (valued_step (map pair_tree done.items) key (option_map tree slot) piece) }
+        (valued_step (map pair_tree done.pairs.items) key (option_map tree slot) piece) }
 {
     match slot {
-        Some(node) => after_pair(with_pair(done, key, node)?, piece),
+        Some(node) => after_pair(done.with(key, node)?, piece),
         None => value_step(alloc, Frame::Valued(done, key), piece),
     }
 }
@@ -241,7 +206,7 @@ impl Frame {
     {
         match self {
             Frame::Dashes(_, done) => Ok(Node::sequence(with_node(done, node_or_null(slot))?)),
-            Frame::Keys(_, done, key) => Ok(Node::map(with_pair(done, key, node_or_null(slot))?)),
+            Frame::Keys(_, done, key) => Ok(done.with(key, node_or_null(slot))?.into_node()),
             _ => Ok(Node::Null),
         }
     }

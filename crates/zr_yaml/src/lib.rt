@@ -7,6 +7,7 @@ pub use fault::YamlFault;
 mod document;
 mod fault;
 mod frame;
+mod keyed;
 mod lines;
 mod reader;
 mod scalar;

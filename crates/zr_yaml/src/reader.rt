@@ -4,11 +4,13 @@ ghost use Rattle.std.specs.Prelude.{◌≡◌, ◌<◌, ◌∷◌, [], vec_len, 
 ghost use Rattle.std.specs.Option.{option_map};
 ghost use Rattle.zr_names.specs.Tree.{tree};
 ghost use Rattle.zr_yaml.specs.Scan.{Gives, GivesAll};
-ghost use Rattle.zr_yaml.specs.Reading.{begun, closed, dashes_at, ends_first, has_room, keys_at, lone_step, may_begin, more_step, next_dash, next_key, stepped};
+ghost use Rattle.zr_yaml.specs.Reading.{begun, closed, dashes_at, ends_first, has_room, keys_at};
+ghost use Rattle.zr_yaml.specs.Reading.{lone_step, may_begin, more_step, next_dash, next_key, stepped};
 ghost use Rattle.zr_yaml.specs.Views.{frame_view, frames_view, reader_view, step_view};
 
 use crate::fault::Stop;
-use crate::frame::{Frame, Step, has_pair, node_or_null, opened, with_node, with_pair};
+use crate::frame::{Frame, Step, node_or_null, opened, with_node};
+use crate::keyed::Keyed;
 use crate::lines::is_text;
 use crate::symbols::{Piece, Symbol, line_symbols};
 use std::alloc::Global;
@@ -47,15 +49,15 @@ fn without_frame(frames: Vec<Frame>) -> Option<(Frame, Vec<Frame>)>
     }
 }
 
-fn has_room(frames: &Vec<Frame>) -> bool
-    ensures { result ≡ has_room (frames_view frames.now.items) }
+fn has_room(frames: &[Frame]) -> bool
+    ensures { result ≡ has_room (frames_view frames.now) }
 {
     frames.len() < MAX_DEPTH
 }
 
 /// The innermost frame ends before a symbol at this column.
-fn ends_first(frames: &Vec<Frame>, column: usize, dashed: bool) -> bool
-    ensures { result ≡ ends_first column dashed (frames_view frames.now.items) }
+fn ends_first(frames: &[Frame], column: usize, dashed: bool) -> bool
+    ensures { result ≡ ends_first column dashed (frames_view frames.now) }
 {
     match frames.last() {
         Some(frame) => frame.ends_before(column, dashed),
@@ -64,8 +66,8 @@ fn ends_first(frames: &Vec<Frame>, column: usize, dashed: bool) -> bool
 }
 
 /// The innermost frame may have a block at this column inside. Dashed: of dashes.
-fn may_begin(frames: &Vec<Frame>, column: usize, dashed: bool) -> bool
-    ensures { result ≡ may_begin column dashed (frames_view frames.now.items) }
+fn may_begin(frames: &[Frame], column: usize, dashed: bool) -> bool
+    ensures { result ≡ may_begin column dashed (frames_view frames.now) }
 {
     match frames.last() {
         None => column == 0,
@@ -76,8 +78,8 @@ fn may_begin(frames: &Vec<Frame>, column: usize, dashed: bool) -> bool
 }
 
 /// The innermost frame has dashes at this column.
-fn dashes_at(frames: &Vec<Frame>, column: usize) -> bool
-    ensures { result ≡ dashes_at column (frames_view frames.now.items) }
+fn dashes_at(frames: &[Frame], column: usize) -> bool
+    ensures { result ≡ dashes_at column (frames_view frames.now) }
 {
     match frames.last() {
         Some(Frame::Dashes(own, _)) => column == *own,
@@ -86,8 +88,8 @@ fn dashes_at(frames: &Vec<Frame>, column: usize) -> bool
 }
 
 /// The innermost frame has keys at this column.
-fn keys_at(frames: &Vec<Frame>, column: usize) -> bool
-    ensures { result ≡ keys_at column (frames_view frames.now.items) }
+fn keys_at(frames: &[Frame], column: usize) -> bool
+    ensures { result ≡ keys_at column (frames_view frames.now) }
 {
     match frames.last() {
         Some(Frame::Keys(own, _, _)) => column == *own,
@@ -138,8 +140,8 @@ fn next_key(frames: Vec<Frame>, slot: Option<Node>, key: Bytes) -> Result<Reader
     };
     match frame {
         Frame::Keys(column, done, last) => {
-            let done = with_pair(done, last, node_or_null(slot))?;
-            if has_pair(done.as_slice(), key.as_slice()) {
+            let done = done.with(last, node_or_null(slot))?;
+            if done.has(&key) {
                 return Err(Stop::Bad);
             }
             Ok(Reader {
@@ -286,7 +288,7 @@ impl Reader {
             frames,
             slot,
             may,
-            Frame::Keys(column, Vec::new(alloc), NodeText::new(key)),
+            Frame::Keys(column, Keyed::new(alloc), NodeText::new(key)),
         )
     }
 
