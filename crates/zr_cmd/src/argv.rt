@@ -176,7 +176,9 @@ fn push_hold(
     path: &Path,
     name: &SnapName,
 ) -> Result<(), AllocError>
-    ensures words { OnOk result (words.new ≡ words.old ++ verb.now ∷ tag_text kind job.now ∷ snap_word path.now name.now ∷ []) }
+    ensures words { OnOk result
+        (words.new ≡ words.old ++ verb.now ∷ tag_text kind job.now ∷ snap_word path.now name.now
+        ∷ []) }
     ensures named { OnOk result (IsJob job.now × IsPath path.now × IsVersion name.now) }
 {
     words.push_all(alloc, &[verb])?;
@@ -192,7 +194,9 @@ fn push_bookmark(
     from: &VersionName,
     mark: &MarkName,
 ) -> Result<(), AllocError>
-    ensures words { OnOk result (words.new ≡ words.old ++ words_of (call.One (command.Bookmark path.now from.now mark.now))) }
+    ensures words { OnOk result
+        (words.new ≡ words.old ++ words_of
+        (call.One (command.Bookmark path.now from.now mark.now))) }
     ensures named { OnOk result (IsNamed (call.One (command.Bookmark path.now from.now mark.now))) }
 {
     words.push_all(alloc, &["bookmark"])?;
@@ -208,7 +212,8 @@ fn push_send_from(
     mark: &MarkName,
     name: &SnapName,
 ) -> Result<(), AllocError>
-    ensures words { OnOk result (words.new ≡ words.old ++ words_of (call.SendFrom path.now mark.now name.now)) }
+    ensures words { OnOk result
+        (words.new ≡ words.old ++ words_of (call.SendFrom path.now mark.now name.now)) }
     ensures named { OnOk result (IsNamed (call.SendFrom path.now mark.now name.now)) }
 {
     words.push_all(alloc, &["send", "-i"])?;
@@ -242,7 +247,9 @@ fn push_with_snap(
     path: &Path,
     name: &SnapName,
 ) -> Result<(), AllocError>
-    ensures words { OnOk result (words.new ≡ words.old ++ (map (λ text. text.now) texts.now ++ snap_word path.now name.now ∷ [])) }
+    ensures words { OnOk result
+        (words.new ≡ words.old ++ (map (λ text. text.now) texts.now
+        ++ snap_word path.now name.now ∷ [])) }
     ensures named { OnOk result (IsPath path.now × IsVersion name.now) }
 {
     words.push_all(alloc, texts)?;
@@ -257,7 +264,9 @@ fn push_with_mark(
     path: &Path,
     mark: &MarkName,
 ) -> Result<(), AllocError>
-    ensures words { OnOk result (words.new ≡ words.old ++ (map (λ text. text.now) texts.now ++ mark_word path.now mark.now ∷ [])) }
+    ensures words { OnOk result
+        (words.new ≡ words.old ++ (map (λ text. text.now) texts.now
+        ++ mark_word path.now mark.now ∷ [])) }
     ensures named { OnOk result (IsPath path.now × IsVersion mark.now) }
 {
     words.push_all(alloc, texts)?;
@@ -316,7 +325,8 @@ fn begun(alloc: Global, program: &str) -> Result<Words, AllocError>
 
 /// Both children of a transfer.
 fn pipe_of(alloc: Global, program: &str, transfer: &Transfer) -> Result<Argv, AllocError>
-    ensures words { IfOk result (λ argv. argv ≡ argv_words program.now (command.Transfer transfer.now)) }
+    ensures words { IfOk result
+        (λ argv. argv ≡ argv_words program.now (command.Transfer transfer.now)) }
     ensures named { OnOk result (AreNamed (command.Transfer transfer.now)) }
 {
     let mut send = begun(alloc, program)?;

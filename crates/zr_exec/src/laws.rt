@@ -22,7 +22,8 @@ pub fn calls_are_read_by_the_rule()
     ensures words { (words : List (List ℕ)) (command : Cmd) →
         command_of words ≡ Some command → words ≡ words_of (call.One command) }
     ensures transfer { (send receive : List (List ℕ)) (transfer : Transfer) →
-        SpellsPipe send receive transfer → transfer_of send receive ≡ Some (plain_transfer transfer) }
+        SpellsPipe send receive transfer
+        → transfer_of send receive ≡ Some (plain_transfer transfer) }
     ensures answer { (command : Cmd) (ended : RunExit) (bytes : List ℕ) (given : Answer) →
         IsAnswer (listed_by command) ended bytes given → is_no_memory given ≡ false →
         answer_of (listed_by command) ended bytes ≡ given }

@@ -75,7 +75,8 @@ pub trait Spawn {
     fn begin(&mut self, unit: &Unit, run: u64) -> Result<(), NoMemory>
         ensures faults { faults self.new ≡ faults self.old }
         ensures pools { pools self.new ≡ pools self.old }
-        ensures ok { OnOk result (history self.new ≡ with_lines (history self.old) (Begin unit.now run ∷ [])) }
+        ensures ok { OnOk result
+            (history self.new ≡ with_lines (history self.old) (Begin unit.now run ∷ [])) }
         ensures err { OnErr result (history self.new ≡ history self.old) };
 
     /// Runs the program that the first word names with the other words, and leaves in `out` what it
@@ -84,7 +85,8 @@ pub trait Spawn {
         ensures cause { HasExitCause (faults self.old) (faults self.new) result }
         ensures within { length out.new.items ≤ LISTING_LIMIT }
         ensures full { result ≡ RunExit.TooLong → length out.new.items ≡ LISTING_LIMIT }
-        ensures told { RecordsChild (history self.old) (history self.new) (map string_bytes argv.now) result out.new.items }
+        ensures told { RecordsChild (history self.old) (history self.new)
+            (map string_bytes argv.now) result out.new.items }
         ensures pools { Serves (drop 1 (map string_bytes argv.now))
             (pools self.old) (pools self.new) result out.new.items };
 
@@ -93,6 +95,7 @@ pub trait Spawn {
         ensures cause { HasPipeCause (faults self.old) (faults self.new) result }
         ensures told { RecordsPipe (history self.old) (history self.new)
             (map string_bytes send.now) (map string_bytes receive.now) result }
-        ensures pools { ServesPipe (drop 1 (map string_bytes send.now)) (drop 1 (map string_bytes receive.now))
+        ensures pools { ServesPipe (drop 1 (map string_bytes send.now))
+            (drop 1 (map string_bytes receive.now))
             (pools self.old) (pools self.new) result };
 }

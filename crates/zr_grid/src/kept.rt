@@ -75,7 +75,8 @@ fn keeps_next(
     requires rows { IsAscending rows.now }
     requires index { i < length rows.now }
     requires swept { Sweeps intervals.now top rows.now i place.old }
-    ensures kept { (row : RowValue) → slice_get rows.now i ≡ Some row → result ≡ slots_keep (slots intervals.now) top rows.now i row }
+    ensures kept { (row : RowValue) → slice_get rows.now i ≡ Some row
+        → result ≡ slots_keep (slots intervals.now) top rows.now i row }
     ensures swept { Sweeps intervals.now top rows.now (i + 1) place.new }
 {
     let row = &rows[i];
@@ -94,7 +95,8 @@ pub fn grid_keeps(spec: &GridSpec, rows: &[GridRow], marks: &mut [bool])
     requires rows { IsAscending rows.now }
     requires grid { IsGrid spec.now.intervals }
     ensures kept { (i : ℕ) (row : RowValue) → slice_get rows.now i ≡ Some row
-        → slice_index_or marks.new i false ≡ (slice_index_or marks.old i false || grid_kept spec.now.intervals rows.now i row) }
+        → slice_index_or marks.new i false
+        ≡ (slice_index_or marks.old i false || grid_kept spec.now.intervals rows.now i row) }
     ensures length { length marks.new ≡ length marks.old }
 {
     let intervals = spec.intervals.as_slice();

@@ -14,7 +14,8 @@ use crate::grid::{GridFault, GridSpec, Interval, Keep};
 use std::alloc::{AllocError, Global};
 
 fn print_interval(text: &mut String, interval: &Interval) -> Result<(), AllocError>
-    ensures { OnOk result (string_bytes text.new ≡ string_bytes text.old ++ interval_text interval.now) }
+    ensures { OnOk result (string_bytes text.new
+        ≡ string_bytes text.old ++ interval_text interval.now) }
 {
     write!(text, "{}x{}s", interval.count, interval.width)?;
     match interval.keep {
@@ -26,7 +27,8 @@ fn print_interval(text: &mut String, interval: &Interval) -> Result<(), AllocErr
 }
 
 fn print_others(text: &mut String, others: &[Interval]) -> Result<(), AllocError>
-    ensures { OnOk result (string_bytes text.new ≡ string_bytes text.old ++ flat_map next_text others.now) }
+    ensures { OnOk result (string_bytes text.new
+        ≡ string_bytes text.old ++ flat_map next_text others.now) }
 {
     for interval in others {
         text.push_str(" | ")?;
@@ -49,13 +51,16 @@ fn print_intervals(alloc: Global, intervals: &[Interval]) -> Result<Vec<u8>, All
 /// The canonical text of a grid: widths in seconds, and no brackets where one is kept.
 pub fn print_grid(alloc: Global, spec: &GridSpec) -> Result<Vec<u8>, AllocError>
     ensures canonical { IfOk result (λ text. text.items ≡ grid_text spec.now.intervals) }
-    ensures read_again { IsGrid spec.now.intervals → IfOk result (λ text. Grid spec.now.intervals text.items) }
+    ensures read_again { IsGrid spec.now.intervals
+        → IfOk result (λ text. Grid spec.now.intervals text.items) }
 {
     print_intervals(alloc, spec.intervals.as_slice())
 }
 
 /// What `print_grid` writes of a grid, `read_grid` reads as that grid, unless memory runs out.
 pub fn printed_grid_is_read_again()
-    ensures { (intervals : List IntervalValue) (answer : Result GridSpecValue GridFaultValue) → IsGrid intervals → ReadsGrid (grid_text intervals) answer
-        → MatchResult answer (λ spec. spec.intervals ≡ intervals) (λ fault. fault ≡ GridFault.NoMemory) }
+    ensures { (intervals : List IntervalValue) (answer : Result GridSpecValue GridFaultValue)
+        → IsGrid intervals → ReadsGrid (grid_text intervals) answer
+        → MatchResult answer (λ spec. spec.intervals ≡ intervals)
+        (λ fault. fault ≡ GridFault.NoMemory) }
 {}

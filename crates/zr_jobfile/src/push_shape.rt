@@ -54,7 +54,8 @@ struct Client<'a> {
 /// The listener with which one end of a connection ends.
 fn last_listener<'a>(members: &mut Iter<'a, String, Value>) -> Option<&'a str>
     ensures found { IfSome result (λ listener. members_view members.old ≡ local_end listener.now) }
-    ensures missing { IfNone result ((listener : List ℕ) → members_view members.old ≢ local_end listener) }
+    ensures missing { IfNone result
+        ((listener : List ℕ) → members_view members.old ≢ local_end listener) }
 {
     let listener = next_text(members, "listener_name")?;
     if is_last_type(members, "local") {
@@ -66,8 +67,10 @@ fn last_listener<'a>(members: &mut Iter<'a, String, Value>) -> Option<&'a str>
 
 /// The client with which the connecting end ends.
 fn last_client<'a>(members: &mut Iter<'a, String, Value>) -> Option<Client<'a>>
-    ensures found { IfSome result (λ client. members_view members.old ≡ connect_end client.identity.now client.listener.now) }
-    ensures missing { IfNone result ((identity listener : List ℕ) → members_view members.old ≢ connect_end identity listener) }
+    ensures found { IfSome result
+        (λ client. members_view members.old ≡ connect_end client.identity.now client.listener.now) }
+    ensures missing { IfNone result
+        ((identity listener : List ℕ) → members_view members.old ≢ connect_end identity listener) }
 {
     let identity = next_text(members, "client_identity")?;
     let listener = last_listener(members)?;
@@ -75,8 +78,10 @@ fn last_client<'a>(members: &mut Iter<'a, String, Value>) -> Option<Client<'a>>
 }
 
 fn client_of<'a>(value: &'a Value) -> Option<Client<'a>>
-    ensures found { IfSome result (λ client. view value.now ≡ connect_tree client.identity.now client.listener.now) }
-    ensures missing { IfNone result ((identity listener : List ℕ) → view value.now ≢ connect_tree identity listener) }
+    ensures found { IfSome result
+        (λ client. view value.now ≡ connect_tree client.identity.now client.listener.now) }
+    ensures missing { IfNone result
+        ((identity listener : List ℕ) → view value.now ≢ connect_tree identity listener) }
 {
     last_client(&mut members_of(value)?)
 }
@@ -90,8 +95,14 @@ fn served_listener<'a>(value: &'a Value) -> Option<&'a str>
 
 /// The client of a push job, where its connection comes next.
 fn next_client<'a>(members: &mut Iter<'a, String, Value>) -> Option<Client<'a>>
-    ensures found { IfSome result (λ client. members_view members.old ≡ member (codes "connect") (connect_tree client.identity.now client.listener.now) (members_view members.new)) }
-    ensures missing { IfNone result ((identity listener : List ℕ) (rest : Members) → members_view members.old ≢ member (codes "connect") (connect_tree identity listener) rest) }
+    ensures found { IfSome result
+        (λ client. members_view members.old
+        ≡ member (codes "connect") (connect_tree client.identity.now client.listener.now)
+        (members_view members.new)) }
+    ensures missing { IfNone result
+        ((identity listener : List ℕ) (rest : Members)
+        → members_view members.old
+        ≢ member (codes "connect") (connect_tree identity listener) rest) }
 {
     match next_member(members, "connect") {
         Some(connect) => client_of(connect),
@@ -101,8 +112,12 @@ fn next_client<'a>(members: &mut Iter<'a, String, Value>) -> Option<Client<'a>>
 
 /// The listener of a sink job, where it comes next.
 fn next_served<'a>(members: &mut Iter<'a, String, Value>) -> Option<&'a str>
-    ensures found { IfSome result (λ listener. members_view members.old ≡ member (codes "serve") (serve_tree listener.now) (members_view members.new)) }
-    ensures missing { IfNone result ((listener : List ℕ) (rest : Members) → members_view members.old ≢ member (codes "serve") (serve_tree listener) rest) }
+    ensures found { IfSome result
+        (λ listener. members_view members.old
+        ≡ member (codes "serve") (serve_tree listener.now) (members_view members.new)) }
+    ensures missing { IfNone result
+        ((listener : List ℕ) (rest : Members)
+        → members_view members.old ≢ member (codes "serve") (serve_tree listener) rest) }
 {
     match next_member(members, "serve") {
         Some(serve) => served_listener(serve),
@@ -121,8 +136,10 @@ fn is_empty(value: &Value) -> bool
 
 /// Whether the next member has this key and an empty array.
 fn is_next_empty(members: &mut Iter<'_, String, Value>, key: &str) -> bool
-    ensures found { IsTrue result → members_view members.old ≡ member key.now (array no_items) (members_view members.new) }
-    ensures missing { result ≡ false → (rest : Members) → members_view members.old ≢ member key.now (array no_items) rest }
+    ensures found { IsTrue result
+        → members_view members.old ≡ member key.now (array no_items) (members_view members.new) }
+    ensures missing { result ≡ false → (rest : Members)
+        → members_view members.old ≢ member key.now (array no_items) rest }
 {
     match next_member(members, key) {
         Some(value) => is_empty(value),
@@ -132,7 +149,8 @@ fn is_next_empty(members: &mut Iter<'_, String, Value>, key: &str) -> bool
 
 /// Whether nothing is left but this key and an empty array.
 fn is_last_empty(members: &mut Iter<'_, String, Value>, key: &str) -> bool
-    ensures { IsTrue result ↔ (members_view members.old ≡ member key.now (array no_items) no_members) }
+    ensures { IsTrue result ↔ (members_view members.old
+        ≡ member key.now (array no_items) no_members) }
 {
     is_next_empty(members, key) && is_done(members)
 }
@@ -165,8 +183,11 @@ fn is_push_end(members: &mut Iter<'_, String, Value>) -> bool
 
 /// The name with which a push job ends, before what is not free in it.
 fn last_name<'a>(members: &mut Iter<'a, String, Value>) -> Option<&'a str>
-    ensures found { IfSome result (λ name. members_view members.old ≡ member (codes "name") (string name.now) push_end) }
-    ensures missing { IfNone result ((name : List ℕ) → members_view members.old ≢ member (codes "name") (string name) push_end) }
+    ensures found { IfSome result
+        (λ name. members_view members.old ≡ member (codes "name") (string name.now) push_end) }
+    ensures missing { IfNone result
+        ((name : List ℕ) → members_view members.old
+        ≢ member (codes "name") (string name) push_end) }
 {
     let name = next_text(members, "name")?;
     if is_push_end(members) {
@@ -215,8 +236,10 @@ fn sink_parts<'a>(value: &'a Value) -> Option<SinkParts<'a>>
 
 /// The two items of an array.
 fn two_items<'a>(value: &'a Value) -> Option<(&'a Value, &'a Value)>
-    ensures found { IfSome result (λ pair. view value.now ≡ two_items (view pair.0.now) (view pair.1.now)) }
-    ensures missing { IfNone result ((first second : Data) → view value.now ≢ two_items first second) }
+    ensures found { IfSome result
+        (λ pair. view value.now ≡ two_items (view pair.0.now) (view pair.1.now)) }
+    ensures missing { IfNone result
+        ((first second : Data) → view value.now ≢ two_items first second) }
 {
     match value.as_array()?.as_slice() {
         [first, second] => Some((first, second)),
@@ -226,8 +249,10 @@ fn two_items<'a>(value: &'a Value) -> Option<(&'a Value, &'a Value)>
 
 /// The two jobs of a file.
 fn two_jobs<'a>(tree: &'a Table) -> Option<(&'a Value, &'a Value)>
-    ensures found { IfSome result (λ pair. table_view tree.now ≡ two_jobs_file (view pair.0.now) (view pair.1.now)) }
-    ensures missing { IfNone result ((first second : Data) → table_view tree.now ≢ two_jobs_file first second) }
+    ensures found { IfSome result
+        (λ pair. table_view tree.now ≡ two_jobs_file (view pair.0.now) (view pair.1.now)) }
+    ensures missing { IfNone result
+        ((first second : Data) → table_view tree.now ≢ two_jobs_file first second) }
 {
     let mut members = tree.iter();
     let jobs = next_member(&mut members, "jobs")?;
@@ -241,7 +266,8 @@ fn two_jobs<'a>(tree: &'a Table) -> Option<(&'a Value, &'a Value)>
 /// The parts of a file with a push job and then a sink job.
 pub(crate) fn push_file_parts<'a>(tree: &'a Table) -> Option<(PushParts<'a>, SinkParts<'a>)>
     ensures found { IfSome result (λ pair. table_view tree.now ≡ push_file pair.0 pair.1) }
-    ensures missing { IfNone result ((push : PushJob) (sink : SinkJob) → table_view tree.now ≢ push_file push sink) }
+    ensures missing { IfNone result
+        ((push : PushJob) (sink : SinkJob) → table_view tree.now ≢ push_file push sink) }
 {
     let (push, sink) = two_jobs(tree)?;
     let push = push_parts(push)?;

@@ -19,8 +19,11 @@ use toml::Value;
 
 /// The value of the next member, where it has this key.
 pub(crate) fn next_member<'a>(members: &mut Iter<'a, String, Value>, key: &str) -> Option<&'a Value>
-    ensures found { IfSome result (λ value. members_view members.old ≡ member key.now (view value.now) (members_view members.new)) }
-    ensures missing { IfNone result ((inner : Data) (rest : Members) → members_view members.old ≢ member key.now inner rest) }
+    ensures found { IfSome result
+        (λ value. members_view members.old
+        ≡ member key.now (view value.now) (members_view members.new)) }
+    ensures missing { IfNone result
+        ((inner : Data) (rest : Members) → members_view members.old ≢ member key.now inner rest) }
 {
     match members.next() {
         Some((name, value)) if name.as_str() == key => Some(value),
@@ -66,8 +69,10 @@ pub(crate) fn only_member<'a>(value: &'a Value, key: &str) -> Option<&'a Value>
 
 /// The only item of an array.
 pub(crate) fn only_item<'a>(value: &'a Value) -> Option<&'a Value>
-    ensures found { IfSome result (λ inner. view value.now ≡ array (item (view inner.now) no_items)) }
-    ensures missing { IfNone result ((inner : Data) → view value.now ≢ array (item inner no_items)) }
+    ensures found { IfSome result
+        (λ inner. view value.now ≡ array (item (view inner.now) no_items)) }
+    ensures missing { IfNone result
+        ((inner : Data) → view value.now ≢ array (item inner no_items)) }
 {
     let items = value.as_array()?;
     if items.len() == 1 {
@@ -110,8 +115,12 @@ fn is_manual(value: &Value) -> bool
 
 /// The pattern of a job's filter, where the filter comes next.
 pub(crate) fn next_pattern<'a>(members: &mut Iter<'a, String, Value>) -> Option<&'a str>
-    ensures found { IfSome result (λ pattern. members_view members.old ≡ member (codes "filesystems") (filter_tree pattern.now) (members_view members.new)) }
-    ensures missing { IfNone result ((pattern : List ℕ) (rest : Members) → members_view members.old ≢ member (codes "filesystems") (filter_tree pattern) rest) }
+    ensures found { IfSome result
+        (λ pattern. members_view members.old
+        ≡ member (codes "filesystems") (filter_tree pattern.now) (members_view members.new)) }
+    ensures missing { IfNone result
+        ((pattern : List ℕ) (rest : Members)
+        → members_view members.old ≢ member (codes "filesystems") (filter_tree pattern) rest) }
 {
     match next_member(members, "filesystems") {
         Some(filter) => sole_pattern(filter),
@@ -121,8 +130,12 @@ pub(crate) fn next_pattern<'a>(members: &mut Iter<'a, String, Value>) -> Option<
 
 /// The text of the next member, where it has this key.
 pub(crate) fn next_text<'a>(members: &mut Iter<'a, String, Value>, key: &str) -> Option<&'a str>
-    ensures found { IfSome result (λ text. members_view members.old ≡ member key.now (string text.now) (members_view members.new)) }
-    ensures missing { IfNone result ((text : List ℕ) (rest : Members) → members_view members.old ≢ member key.now (string text) rest) }
+    ensures found { IfSome result
+        (λ text. members_view members.old
+        ≡ member key.now (string text.now) (members_view members.new)) }
+    ensures missing { IfNone result
+        ((text : List ℕ) (rest : Members)
+        → members_view members.old ≢ member key.now (string text) rest) }
 {
     match next_member(members, key) {
         Some(value) => value.as_str(),

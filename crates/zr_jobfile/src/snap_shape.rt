@@ -22,7 +22,8 @@ pub(crate) struct Parts<'a> {
 /// How many snapshots a rule `last_n` keeps.
 fn count_of(value: &Value) -> Option<u32>
     ensures found { IfSome result (λ count. (view value.now ≡ integer (pos count)) × (0 < count)) }
-    ensures missing { IfNone result ((count : ℕ) → 0 < count → count ≤ 4294967295 → view value.now ≢ integer (pos count)) }
+    ensures missing { IfNone result
+        ((count : ℕ) → 0 < count → count ≤ 4294967295 → view value.now ≢ integer (pos count)) }
 {
     match value {
         Value::Integer(count) if *count > 0 => match u32::try_from(*count) {
@@ -35,7 +36,8 @@ fn count_of(value: &Value) -> Option<u32>
 
 fn rule_count(value: &Value) -> Option<u32>
     ensures found { IfSome result (λ count. (view value.now ≡ rule_tree count) × (0 < count)) }
-    ensures missing { IfNone result ((count : ℕ) → 0 < count → count ≤ 4294967295 → view value.now ≢ rule_tree count) }
+    ensures missing { IfNone result
+        ((count : ℕ) → 0 < count → count ≤ 4294967295 → view value.now ≢ rule_tree count) }
 {
     let mut members = members_of(value)?;
     let count = count_of(next_member(&mut members, "count")?)?;
@@ -48,15 +50,20 @@ fn rule_count(value: &Value) -> Option<u32>
 
 fn pruning_count(value: &Value) -> Option<u32>
     ensures found { IfSome result (λ count. (view value.now ≡ pruning_tree count) × (0 < count)) }
-    ensures missing { IfNone result ((count : ℕ) → 0 < count → count ≤ 4294967295 → view value.now ≢ pruning_tree count) }
+    ensures missing { IfNone result
+        ((count : ℕ) → 0 < count → count ≤ 4294967295 → view value.now ≢ pruning_tree count) }
 {
     rule_count(only_item(only_member(value, "keep")?)?)
 }
 
 /// How many snapshots a job keeps, where its pruning comes next.
 fn next_count(members: &mut Iter<'_, String, Value>) -> Option<u32>
-    ensures found { IfSome result (λ count. (members_view members.old ≡ member (codes "pruning") (pruning_tree count) (members_view members.new)) × (0 < count)) }
-    ensures missing { IfNone result ((count : ℕ) (rest : Members) → 0 < count → count ≤ 4294967295 → members_view members.old ≢ member (codes "pruning") (pruning_tree count) rest) }
+    ensures found { IfSome result
+        (λ count. (members_view members.old
+        ≡ member (codes "pruning") (pruning_tree count) (members_view members.new)) × (0 < count)) }
+    ensures missing { IfNone result
+        ((count : ℕ) (rest : Members) → 0 < count → count ≤ 4294967295
+        → members_view members.old ≢ member (codes "pruning") (pruning_tree count) rest) }
 {
     match next_member(members, "pruning") {
         Some(pruning) => pruning_count(pruning),
@@ -66,8 +73,12 @@ fn next_count(members: &mut Iter<'_, String, Value>) -> Option<u32>
 
 /// The parts of a snap job.
 fn job_parts<'a>(value: &'a Value) -> Option<Parts<'a>>
-    ensures found { IfSome result (λ parts. (view value.now ≡ job_tree parts.name.now parts.pattern.now parts.count) × (0 < parts.count)) }
-    ensures missing { IfNone result ((name pattern : List ℕ) (count : ℕ) → 0 < count → count ≤ 4294967295 → view value.now ≢ job_tree name pattern count) }
+    ensures found { IfSome result
+        (λ parts. (view value.now ≡ job_tree parts.name.now parts.pattern.now parts.count)
+        × (0 < parts.count)) }
+    ensures missing { IfNone result
+        ((name pattern : List ℕ) (count : ℕ) → 0 < count → count ≤ 4294967295
+        → view value.now ≢ job_tree name pattern count) }
 {
     let mut members = members_of(value)?;
     let pattern = next_pattern(&mut members)?;
@@ -100,8 +111,12 @@ fn only_job<'a>(tree: &'a Table) -> Option<&'a Value>
 
 /// The parts of a file with one snap job.
 pub(crate) fn file_parts<'a>(tree: &'a Table) -> Option<Parts<'a>>
-    ensures found { IfSome result (λ parts. (table_view tree.now ≡ snap_file parts.name.now parts.pattern.now parts.count) × (0 < parts.count)) }
-    ensures missing { IfNone result ((name pattern : List ℕ) (count : ℕ) → 0 < count → count ≤ 4294967295 → table_view tree.now ≢ snap_file name pattern count) }
+    ensures found { IfSome result
+        (λ parts. (table_view tree.now ≡ snap_file parts.name.now parts.pattern.now parts.count)
+        × (0 < parts.count)) }
+    ensures missing { IfNone result
+        ((name pattern : List ℕ) (count : ℕ) → 0 < count → count ≤ 4294967295
+        → table_view tree.now ≢ snap_file name pattern count) }
 {
     match only_job(tree) {
         Some(job) => job_parts(job),

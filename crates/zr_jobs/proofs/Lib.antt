@@ -2,3 +2,4 @@ pub mod Apart
 pub mod Paths
 pub mod Targets
 pub mod Pairs
+pub mod Units

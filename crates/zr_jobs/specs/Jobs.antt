@@ -1,4 +1,4 @@
-use Rattle.std.specs.Prelude.{⊤, ◌≡◌, ◌&&◌, ℕ, ◌<◌, Bool, true, false, List, [], ◌∷◌, ◌++◌, Option, Some, None, nat_le, Contains, IsPermutation, filter, map, flat_map, length, slice_get}
+use Rattle.std.specs.Prelude.{⊤, ◌≡◌, ◌&&◌, ℕ, ◌<◌, Bool, true, false, List, [], ◌∷◌, ◌++◌, Option, Some, None, is_some, nat_le, nat_lt, Contains, IsPermutation, filter, map, flat_map, length, slice_get}
 use Rattle.std.specs.List.Sorted.{IsSorted}
 use Rattle.std.specs.Ordering.{nat_cmp}
 use Rattle.std.specs.Cmp.Lexicographic.{slice_cmp}
@@ -60,6 +60,17 @@ fits_target (Some place) source = fits (target_text place source)
 -- a path that a job's units can work on: neither the path nor its target is too long
 abbrev pub fits_in : Option Job → List ℕ → Bool
 fits_in job path = fits path && fits_target (destination_of job) path
+
+-- a listed path of which a scan of a job gives units
+abbrev pub takes : Option Job → List ℕ → Bool
+takes job path = matches_in job path && fits_in job path
+
+-- whether a scan of a job gives such work, for some listing
+abbrev pub gives : Option Job → Work → Bool
+gives job work.Scan = true
+gives job (work.Replicate path) = takes job path && is_some (destination_of job)
+gives job (work.PruneSource path) = takes job path && nat_lt 0 (length (rules_of job))
+gives job other = false
 
 -- a path is replicated where its job has a destination
 abbrev pub replications : Option Destination → ℕ → ℕ → List ℕ → List Unit

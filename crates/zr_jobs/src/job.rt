@@ -8,7 +8,7 @@ use crate::pair::Pair;
 use crate::target::{Destination, LONGEST_PATH, TargetFault, target_length, target_of};
 use std::alloc::Global;
 use zr_filter::{Filter, matches};
-use zr_names::{JobName, NoMemory, Path, Rows, Same, Unit};
+use zr_names::{JobName, NoMemory, Path, Rows, Same, Unit, Work};
 
 /// A rule that keeps snapshots (zrepl's documentation, "Pruning Policies").
 #[derive(Clone, Copy, PartialEq, Eq)]
@@ -37,11 +37,12 @@ pub struct JobSet {
 
 impl JobSet {
     ghost use Rattle.zr_jobs.specs.Targets.{TellsLength};
-    ghost use Rattle.std.specs.Prelude.{◌≡◌, IfErr, IfOk, Some, true};
+    ghost use Rattle.std.specs.Prelude.{◌≡◌, Decides, IfErr, IfOk, Some, true};
     ghost use Rattle.std.specs.Option.{option_copied};
     ghost use Rattle.zr_jobs.specs.declared.target.TargetFault.TheVariants as target_fault;
     ghost use Rattle.zr_names.specs.declared.unit.Work.TheVariants as work;
-    ghost use Rattle.zr_jobs.specs.Jobs.{destination_of, fits_in, IsOfFile, job_at, matches_in, pair_of, rules_of};
+    ghost use Rattle.zr_jobs.specs.Jobs.{destination_of, fits_in, gives, IsOfFile, job_at};
+    ghost use Rattle.zr_jobs.specs.Jobs.{matches_in, pair_of, rules_of, takes};
 
     /// The job of this number.
     pub fn job(&self, number: u32) -> Option<&Job>
@@ -87,6 +88,32 @@ impl JobSet {
         fits(path) && fits_target(self.destination(number), path)
     }
 
+    /// Whether a scan of a job gives units of a path, where its listing has it.
+    fn takes(&self, number: u32, path: &Path) -> bool
+        ensures { result ≡ takes (job_at self.now number) path.now }
+    {
+        self.matches(number, path) && self.fits(number, path)
+    }
+
+    /// Whether a scan of a job gives such work, for some listing.
+    fn gives(&self, number: u32, work: &Work) -> bool
+        ensures { result ≡ gives (job_at self.now number) work.now }
+    {
+        match work {
+            Work::Scan => true,
+            Work::Replicate(path) => self.takes(number, path) && self.destination(number).is_some(),
+            Work::PruneSource(path) => self.takes(number, path) && 0 < self.rules(number).len(),
+            Work::Parents | Work::Snap(_, _) | Work::PruneTarget(_) => false,
+        }
+    }
+
+    /// Whether a unit is one of these jobs: a scan of a job, or what such a scan gives for some listing.
+    pub fn has_unit(&self, unit: &Unit) -> bool
+        ensures { Decides result (IsOfFile self.now unit.now) }
+    {
+        self.job(unit.job).is_some() && self.gives(unit.job, &unit.work)
+    }
+
     /// What a job replicates from a source, if it replicates. Where the source fits, a fault is want of memory.
     pub fn pair(
         &self,
@@ -97,7 +124,8 @@ impl JobSet {
         ensures pair { IfOk result (λ pair. pair ≡ pair_of (job_at self.now number) source.now) }
         ensures fault { IfErr result (λ fault.
             fits_in (job_at self.now number) source.now ≡ true → fault ≡ target_fault.NoMemory) }
-        ensures length { IfErr result (TellsLength (destination_of (job_at self.now number)) source.now) }
+        ensures length { IfErr result
+            (TellsLength (destination_of (job_at self.now number)) source.now) }
     {
         match self.job(number) {
             Some(job) => pair_in(alloc, job, source),
@@ -109,7 +137,8 @@ impl JobSet {
     pub fn unit_pair(&self, alloc: Global, unit: &Unit, source: &Path) -> Result<Pair, NoMemory>
         requires of_file { IsOfFile self.now unit.now }
         requires kind { unit.now.work ≡ work.Replicate source.now }
-        ensures { IfOk result (λ pair. pair_of (job_at self.now unit.now.job) source.now ≡ Some pair) }
+        ensures { IfOk result (λ pair. pair_of (job_at self.now unit.now.job) source.now
+            ≡ Some pair) }
     {
         match self.pair(alloc, unit.job, source) {
             Ok(Some(pair)) => Ok(pair),

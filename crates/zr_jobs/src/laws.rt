@@ -12,7 +12,8 @@ pub fn targets_differ()
 
 /// A target is below its root.
 pub fn targets_are_below_their_root()
-    ensures { (place : Destination) (source : List ℕ) → IsBelow (root_of place) (target_text place source) }
+    ensures { (place : Destination) (source : List ℕ)
+        → IsBelow (root_of place) (target_text place source) }
 {}
 
 /// The most bytes of a path on which a job's units work.

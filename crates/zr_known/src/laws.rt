@@ -37,8 +37,13 @@ pub fn what_was_not_done_tells_nothing()
 pub fn a_listing_replaces_what_it_lists()
     ensures source { (pair : Pair) (rows : List VersionRow) (known : Known) →
         told_by pair (cmd.Versions pair.source) (answer.Done (reply.Versions rows)) known
-        ≡ record known { source = record known.source { listing = Some rows }; marks = filter (is_own pair.job) rows } }
-    ensures target { (pair : Pair) (rows : List VersionRow) (known : Known) → pair.target ≢ pair.source →
+        ≡ record known {
+          source = record known.source { listing = Some rows };
+          marks = filter
+              (is_own pair.job) rows;
+        } }
+    ensures target { (pair : Pair) (rows : List VersionRow) (known : Known)
+        → pair.target ≢ pair.source →
         told_by pair (cmd.Versions pair.target) (answer.Done (reply.Versions rows)) known
         ≡ record known { target = record known.target { listing = Some rows }; arrived = Some [] } }
     ensures other { (pair : Pair) (path : List ℕ) (rows : List VersionRow) (known : Known) →
@@ -53,21 +58,26 @@ pub fn a_done_transfer_makes_its_snapshot_the_newest()
         transfer.target ≡ pair.target → target_rows known ≡ Some rows →
         newest_known (told_by pair (cmd.Transfer transfer) (answer.Done reply.Nothing) known)
         ≡ Some (arrival transfer) }
-    ensures whole { (pair : Pair) (transfer : Transfer) (known : Known) → transfer.target ≡ pair.target →
-        (told_by pair (cmd.Transfer transfer) (answer.Done reply.Nothing) known).receiving ≡ receiving.Nothing }
+    ensures whole { (pair : Pair) (transfer : Transfer) (known : Known)
+        → transfer.target ≡ pair.target →
+        (told_by pair (cmd.Transfer transfer) (answer.Done reply.Nothing) known).receiving
+        ≡ receiving.Nothing }
     ensures source { (pair : Pair) (transfer : Transfer) (known : Known) →
-        (told_by pair (cmd.Transfer transfer) (answer.Done reply.Nothing) known).marks ≡ known.marks }
+        (told_by pair (cmd.Transfer transfer) (answer.Done reply.Nothing) known).marks
+        ≡ known.marks }
 {}
 
 /// At most one transfer is allowed after a transcript, so a record in which it stands without its guids tells which.
 pub fn at_most_one_transfer_is_allowed()
     ensures { (pair : Pair) (known : Known) (one other : Transfer) →
-        MayGive pair known (cmd.Transfer one) → MayGive pair known (cmd.Transfer other) → one ≡ other }
+        MayGive pair known (cmd.Transfer one) → MayGive pair known (cmd.Transfer other)
+        → one ≡ other }
 {}
 
 /// A straight pair has a plan that is done by transfers alone.
 pub fn a_straight_pair_is_replicated_by_transfers()
-    ensures { (pair : Pair) (known : Known) → is_straight pair known ≡ true → IsForward (plan_known pair known) }
+    ensures { (pair : Pair) (known : Known) → is_straight pair known ≡ true
+        → IsForward (plan_known pair known) }
 {}
 
 /// The number of the conflict of a pair that is not straight.

@@ -43,7 +43,8 @@ impl Known {
         rows: &'a [VersionRow],
     ) -> Option<&'a VersionRow>
         ensures { option_copied result ≡
-            find (λ row. is_snap_of guid row && makes_cursor pair.now self.now guid row.name) rows.now }
+            find (λ row. is_snap_of guid row && makes_cursor pair.now self.now guid row.name)
+            rows.now }
     {
         rows.iter().find(|row| is_snap_of(row, guid) && self.makes_cursor(pair, guid, &row.name))
     }
@@ -54,7 +55,8 @@ impl Known {
         guid: Guid,
         rows: &'a [VersionRow],
     ) -> Option<&'a VersionRow>
-        ensures { option_copied result ≡ find (λ row. makes_cursor pair.now self.now guid row.name) rows.now }
+        ensures { option_copied result
+            ≡ find (λ row. makes_cursor pair.now self.now guid row.name) rows.now }
     {
         rows.iter()
             .find(|row| self.makes_cursor(pair, guid, &row.name))

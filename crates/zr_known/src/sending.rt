@@ -70,7 +70,8 @@ impl Known {
         pair: &Pair,
         step: &Step,
     ) -> Result<Option<Transfer>, NoMemory>
-        ensures { IfOk result (λ transfer. transfer ≡ transfer_of_step pair.now self.now step.now step.now.full) }
+        ensures { IfOk result (λ transfer. transfer
+            ≡ transfer_of_step pair.now self.now step.now step.now.full) }
     {
         let (base, force) = if step.full {
             (Base::Full, is_there(self.presence))

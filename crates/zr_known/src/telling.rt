@@ -81,7 +81,8 @@ impl Known {
         name: &SnapName,
         tags: &[Tag],
     ) -> Result<(), NoMemory>
-        ensures ok { OnOk result (self.new ≡ told_holds pair.now path.now name.now tags.now self.old) }
+        ensures ok { OnOk result
+            (self.new ≡ told_holds pair.now path.now name.now tags.now self.old) }
         ensures err { OnErr result (self.new ≡ self.old) }
     {
         if *path == pair.source {
@@ -105,7 +106,8 @@ impl Known {
         path: &Path,
         name: &SnapName,
     ) -> Result<(), NoMemory>
-        ensures ok { OnOk result (self.new ≡ told_hold pair.now held kind path.now name.now self.old) }
+        ensures ok { OnOk result
+            (self.new ≡ told_hold pair.now held kind path.now name.now self.old) }
         ensures err { OnErr result (self.new ≡ self.old) }
     {
         match kind {
@@ -151,7 +153,8 @@ impl Known {
         version: &VersionName,
         name: &MarkName,
     ) -> Result<(), NoMemory>
-        ensures ok { OnOk result (self.new ≡ told_bookmark pair.now path.now version.now name.now self.old) }
+        ensures ok { OnOk result
+            (self.new ≡ told_bookmark pair.now path.now version.now name.now self.old) }
         ensures err { OnErr result (self.new ≡ self.old) }
     {
         if *path != pair.source || !is_own_mark(name, &pair.job) {

@@ -165,7 +165,8 @@ pub(crate) fn push_arrival(
     arrived: &mut Option<Rows<VersionRow>>,
     transfer: &Transfer,
 ) -> Result<(), NoMemory>
-    ensures ok { OnOk result (arrived.new ≡ option_map (λ rows. rows ++ arrival transfer.now ∷ []) arrived.old) }
+    ensures ok { OnOk result
+        (arrived.new ≡ option_map (λ rows. rows ++ arrival transfer.now ∷ []) arrived.old) }
     ensures err { OnErr result (arrived.new ≡ arrived.old) }
 {
     if let Some(rows) = arrived {

@@ -52,9 +52,11 @@ pub(crate) fn reserve_all(
     ensures history_room { vec_capacity history.old ≤ vec_capacity history.new }
     ensures waiting_ok { OnOk result (HasRoomFor waiting.new units.now) }
     ensures outs_ok { OnOk result
-        (length waiting.old.units + length outs.old.items + length units.now ≤ vec_capacity outs.new) }
+        (length waiting.old.units + length outs.old.items + length units.now
+        ≤ vec_capacity outs.new) }
     ensures history_ok { OnOk result
-        (length history.old.items + (3 * length units.now + (2 * length waiting.old.units + length outs.old.items))
+        (length history.old.items
+        + (3 * length units.now + (2 * length waiting.old.units + length outs.old.items))
         ≤ vec_capacity history.new) }
 {
     let Some(starts) = waiting.len().checked_add(units.len()) else {
@@ -79,7 +81,8 @@ pub(crate) fn next_base(
     history: &[Entry],
 ) -> Result<Option<State>, AllocError>
     ensures { IfOk result (λ next. next
-        ≡ next_base (is_long history.now) (standing limits.now waiting.now.units outs.now counts.now)) }
+        ≡ next_base (is_long history.now)
+        (standing limits.now waiting.now.units outs.now counts.now)) }
 {
     if history.len() < HISTORY_LIMIT {
         return Ok(None);
@@ -120,7 +123,8 @@ fn settle(waiting: &mut Queue, counts: &mut Counts, fresh: bool, unit: Unit, twi
         ≡ (if fresh then (waiting.old.units ++ unit ∷ []) else waiting.old.units) }
     ensures counts { counts.new
         ≡ (if fresh then with_new unit.work counts.old else with_coalesced unit.work counts.old) }
-    ensures room { (rest : List TheUnit) → HasRoomFor waiting.old (unit ∷ rest) → HasRoomFor waiting.new rest }
+    ensures room { (rest : List TheUnit) → HasRoomFor waiting.old (unit ∷ rest)
+        → HasRoomFor waiting.new rest }
 {
     if fresh {
         counts.accept(&unit.work);
@@ -141,11 +145,13 @@ fn join(
 ) -> bool
     requires room { HasRoomFor waiting.old (spare ∷ []) }
     requires history_room { vec_len history.old < vec_capacity history.old }
-    ensures answer { result ≡ is_new (standing limits.now waiting.old.units outs.now counts.old) spare }
+    ensures answer { result ≡ is_new (standing limits.now waiting.old.units outs.now counts.old)
+        spare }
     ensures state { standing limits.now waiting.new.units outs.now counts.new
         ≡ joined (standing limits.now waiting.old.units outs.now counts.old) spare }
     ensures history { history.new.items ≡ history.old.items ++ Entry.Add spare ∷ [] }
-    ensures room { (rest : List TheUnit) → HasRoomFor waiting.old (spare ∷ rest) → HasRoomFor waiting.new rest }
+    ensures room { (rest : List TheUnit) → HasRoomFor waiting.old (spare ∷ rest)
+        → HasRoomFor waiting.new rest }
     ensures history_room { vec_capacity history.new ≡ vec_capacity history.old }
 {
     let (unit, twin, noted) = spare.into_parts();
@@ -176,9 +182,11 @@ pub(crate) fn join_all(
     spares: Vec<Spare>,
 ) -> u64
     requires room { HasRoomFor waiting.old spares.items }
-    requires history_room { length history.old.items + length spares.items ≤ vec_capacity history.old }
+    requires history_room { length history.old.items + length spares.items
+        ≤ vec_capacity history.old }
     ensures answer { result
-        ≡ coalesced_from 0 (standing limits.now waiting.old.units outs.now counts.old) spares.items }
+        ≡ coalesced_from 0 (standing limits.now waiting.old.units outs.now counts.old)
+        spares.items }
     ensures state { standing limits.now waiting.new.units outs.now counts.new
         ≡ joined_all (standing limits.now waiting.old.units outs.now counts.old) spares.items }
     ensures history { history.new.items ≡ history.old.items ++ map Entry.Add spares.items }

@@ -90,7 +90,8 @@ impl<C: Drop> Ledger<C> {
         // Where something waits and nothing is out, a unit starts, unless all run numbers were given.
         ensures starts { 0 < length self.old.state.waiting → self.old.state.outs ≡ []
             → is_spent self.old.state ≡ false → is_work result ≡ true }
-        ensures ticks { (result ≡ Turn.TickYourself) ↔ (IsIdle self.old.state × (self.old.clock ≡ here)) }
+        ensures ticks { (result ≡ Turn.TickYourself)
+            ↔ (IsIdle self.old.state × (self.old.clock ≡ here)) }
         ensures waits { (result ≡ Turn.Wait) ↔ IsWaiting self.old.state self.old.clock }
         ensures ended { (result ≡ Turn.Ended) ↔ IsOver self.old.state self.old.clock }
 
@@ -123,7 +124,8 @@ impl<C: Drop> Ledger<C> {
         ensures found { is_ok result ≡ list_any (is_ticket ticket) self.old.state.outs }
         ensures stranger { IfErr result (λ stranger. stranger.0 ≡ ticket) }
         ensures state { self.new.state
-            ≡ given_back (position (is_ticket ticket) self.old.state.outs) outcome.now self.old.state }
+            ≡ given_back (position (is_ticket ticket) self.old.state.outs) outcome.now
+            self.old.state }
         ensures clock { self.new.clock ≡ self.old.clock }
         ensures limits { self.new.state.limits ≡ self.old.state.limits }
 
@@ -162,15 +164,17 @@ impl<C: Drop> Ledger<C> {
         ensures base { OnOk result (self.new.base
             ≡ (if is_long self.old.history then self.old.state else self.old.base)) }
         ensures history { OnOk result (self.new.history
-            ≡ (if is_long self.old.history then [] else self.old.history) ++ map Entry.Add units.items) }
+            ≡ (if is_long self.old.history then [] else self.old.history)
+            ++ map Entry.Add units.items) }
         ensures clock { self.new.clock ≡ self.old.clock }
         ensures limits { self.new.state.limits ≡ self.old.state.limits }
 
         // What is due rises by the number of units, and what was coalesced by the answer; no other total moves.
-        ensures totals { IfOk result (λ n. self.new.state.counts.totals ≡ record self.old.state.counts.totals {
-          due = plus self.old.state.counts.totals.due (length units.items);
-          coalesced = plus self.old.state.counts.totals.coalesced n;
-        }) }
+        ensures totals { IfOk result
+            (λ n. self.new.state.counts.totals ≡ record self.old.state.counts.totals {
+              due = plus self.old.state.counts.totals.due (length units.items);
+              coalesced = plus self.old.state.counts.totals.coalesced n;
+            }) }
         ensures counts { self.new.state.counts ≡ record self.old.state.counts {
           totals = self.new.state.counts.totals;
           accepted = self.new.state.counts.accepted;

@@ -223,7 +223,8 @@ impl Queue {
 
     /// Whether a snapshot of a path may wait: none does where none is in its slot.
     fn may_have_snap(&self, path: &Path) -> bool
-        ensures { result ≡ nat_lt 0 (count_by (λ unit. is_snap_in (slot_of path.now) unit.work) self.now.units) }
+        ensures { result ≡ nat_lt 0
+            (count_by (λ unit. is_snap_in (slot_of path.now) unit.work) self.now.units) }
     {
         self.snaps[slot_of(path)] > 0
     }
@@ -235,7 +236,8 @@ impl Queue {
     }
 
     fn has_snap_like(&self, path: &Path, unit: &Unit) -> bool
-        requires { (other : TheUnit) → same_key unit.now other ≡ true → is_snap_of path.now other.work ≡ true }
+        requires { (other : TheUnit) → same_key unit.now other ≡ true
+            → is_snap_of path.now other.work ≡ true }
         ensures { result ≡ list_any (same_key unit.now) self.now.units }
     {
         self.may_have_snap(path) && key_waits_anywhere(&self.order, unit)
@@ -279,7 +281,8 @@ impl Queue {
         requires room { HasRoomFor self.old (unit ∷ []) }
         requires same { twin ≡ unit }
         ensures units { self.new.units ≡ self.old.units ++ unit ∷ [] }
-        ensures room { (rest : List TheUnit) → HasRoomFor self.old (unit ∷ rest) → HasRoomFor self.new rest }
+        ensures room { (rest : List TheUnit) → HasRoomFor self.old (unit ∷ rest)
+            → HasRoomFor self.new rest }
     {
         self.scans = scans_with(self.scans, &unit.work);
         count_snap(&mut self.snaps, &unit.work);

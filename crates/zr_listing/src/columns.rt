@@ -13,7 +13,8 @@ fn place_of(text: &[u8], byte: u8) -> Option<usize>
 
 /// What stands before and after the first place of a byte.
 pub(crate) fn cut(text: &[u8], byte: u8) -> Option<(&[u8], &[u8])>
-    ensures some { IfSome result (λ parts. parted byte text.now ≡ parts.0.now ∷ parted byte parts.1.now) }
+    ensures some { IfSome result
+        (λ parts. parted byte text.now ≡ parts.0.now ∷ parted byte parts.1.now) }
     ensures shorter { IfSome result (λ parts. length parts.1.now < length text.now) }
     ensures none { IfNone result (parted byte text.now ≡ text.now ∷ []) }
 {
@@ -23,7 +24,8 @@ pub(crate) fn cut(text: &[u8], byte: u8) -> Option<(&[u8], &[u8])>
 
 /// The first column of a line.
 pub(crate) fn first_column(line: &[u8]) -> &[u8]
-    ensures { (others : List (List ℕ)) (column : List ℕ) → columns line.now ≡ column ∷ others → result.now ≡ column }
+    ensures { (others : List (List ℕ)) (column : List ℕ) → columns line.now ≡ column ∷ others
+        → result.now ≡ column }
 {
     match cut(line, b'\t') {
         Some((column, _)) => column,
@@ -33,7 +35,8 @@ pub(crate) fn first_column(line: &[u8]) -> &[u8]
 
 /// The second column of a line.
 pub(crate) fn second_column(line: &[u8]) -> &[u8]
-    ensures { (others : List (List ℕ)) (first column : List ℕ) → columns line.now ≡ first ∷ column ∷ others → result.now ≡ column }
+    ensures { (others : List (List ℕ)) (first column : List ℕ)
+        → columns line.now ≡ first ∷ column ∷ others → result.now ≡ column }
 {
     match cut(line, b'\t') {
         Some((_, others)) => first_column(others),

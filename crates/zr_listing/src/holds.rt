@@ -92,9 +92,12 @@ pub fn read_holds(
 ) -> Result<Rows<Tag>, ListFault>
     ensures rows { IfOk result (IsHoldListing path.now snap.now bytes.now) }
     ensures tags_differ { IfOk result (λ tags. AllPairs (λ a b. a ≢ b) tags) }
-    ensures only { IfOk result (λ tags. (others : List (List ℕ)) → IsHoldListing path.now snap.now bytes.now others → others ≡ tags) }
+    ensures only { IfOk result
+        (λ tags. (others : List (List ℕ)) → IsHoldListing path.now snap.now bytes.now others
+        → others ≡ tags) }
     ensures garbled { IfErr result (IsBadAt (IsHoldLine path.now snap.now) (λ tag. tag) bytes.now) }
-    ensures none { IsGarbled result → (tags : List (List ℕ)) → IsHoldListing path.now snap.now bytes.now tags → ⊥ }
+    ensures none { IsGarbled result → (tags : List (List ℕ))
+        → IsHoldListing path.now snap.now bytes.now tags → ⊥ }
 {
     Ok(Rows::from_vec(read_lines(alloc, &Holds { path, snap }, bytes)?))
 }

@@ -27,7 +27,8 @@ pub(crate) trait Kind {
 
     /// The name in a line that spells a row.
     fn name_in<'a>(&self, line: &'a [u8]) -> &'a [u8]
-        ensures { (row : Self.Row) → spells self.now line.now row → result.now ≡ name self.now row };
+        ensures { (row : Self.Row) → spells self.now line.now row
+            → result.now ≡ name self.now row };
 }
 
 /// A row, its name, and what follows its line.
@@ -66,8 +67,10 @@ fn push_row<'a, R: Drop>(
     name: &'a [u8],
 ) -> Result<bool, AllocError>
     ensures added { IfOk result (λ added. added ≡ not (was_met names.old name.now)) }
-    ensures met { OnOk result ((q : List ℕ) → was_met names.new q ≡ cond (ties name.now q) true (was_met names.old q)) }
-    ensures row { IfOk result (λ added. added ≡ true → rows.new.items ≡ rows.old.items ++ row ∷ []) }
+    ensures met { OnOk result
+        ((q : List ℕ) → was_met names.new q ≡ cond (ties name.now q) true (was_met names.old q)) }
+    ensures row { IfOk result
+        (λ added. added ≡ true → rows.new.items ≡ rows.old.items ++ row ∷ []) }
 {
     if !names.insert(name)? {
         return Ok(false);

@@ -57,7 +57,8 @@ impl<'a> Names<'a> {
     /// Takes a name in, and tells whether it was not met before.
     pub(crate) fn insert(&mut self, name: &'a [u8]) -> Result<bool, AllocError>
         ensures added { IfOk result (λ added. added ≡ not (was_met self.old name.now)) }
-        ensures met { OnOk result ((q : List ℕ) → was_met self.new q ≡ cond (ties name.now q) true (was_met self.old q)) }
+        ensures met { OnOk result
+            ((q : List ℕ) → was_met self.new q ≡ cond (ties name.now q) true (was_met self.old q)) }
     {
         if self.is_after(name) {
             self.rising.push(name)?;

@@ -46,8 +46,10 @@ fn push_set(out: &mut Vec<u8>, row: &SetRow) -> Result<(), AllocError>
 
 /// Prints a listing of datasets.
 pub fn print_sets(alloc: Global, rows: &[SetRow]) -> Result<Vec<u8>, NoMemory>
-    ensures text { IfOk result (λ text. text.items ≡ flat_map (λ row. ended (set_line row)) rows.now) }
-    ensures read_back { IfOk result (λ text. IsSetList rows.now → IsSetListing text.items rows.now) }
+    ensures text { IfOk result
+        (λ text. text.items ≡ flat_map (λ row. ended (set_line row)) rows.now) }
+    ensures read_back { IfOk result
+        (λ text. IsSetList rows.now → IsSetListing text.items rows.now) }
 {
     let mut out = Vec::new(alloc);
     for row in rows {
@@ -93,7 +95,8 @@ fn push_version(
     path: &[u8],
     row: &VersionRow,
 ) -> Result<(), AllocError>
-    ensures text { OnOk result (out.new.items ≡ out.old.items ++ ended (version_line path.now row.now)) }
+    ensures text { OnOk result
+        (out.new.items ≡ out.old.items ++ ended (version_line path.now row.now)) }
     ensures valid { OnOk result (IsVersionRow row.now) }
 {
     push_name(out, path, &row.name)?;
@@ -107,9 +110,11 @@ fn push_version(
 
 /// Prints a listing of the versions of the dataset at this path; a bookmark's holds are printed as `-`.
 pub fn print_versions(alloc: Global, path: &Path, rows: &[VersionRow]) -> Result<Vec<u8>, NoMemory>
-    ensures text { IfOk result (λ text. text.items ≡ flat_map (λ row. ended (version_line path.now row)) rows.now) }
+    ensures text { IfOk result
+        (λ text. text.items ≡ flat_map (λ row. ended (version_line path.now row)) rows.now) }
     ensures read_back { IfOk result (λ text.
-        IsVersionList rows.now → MarksAreFree rows.now → IsVersionListing path.now text.items rows.now) }
+        IsVersionList rows.now → MarksAreFree rows.now
+        → IsVersionListing path.now text.items rows.now) }
 {
     let mut out = Vec::new(alloc);
     let dataset = path.as_bytes();
@@ -120,7 +125,8 @@ pub fn print_versions(alloc: Global, path: &Path, rows: &[VersionRow]) -> Result
 }
 
 fn push_hold(out: &mut Vec<u8>, path: &[u8], snap: &[u8], tag: &Tag) -> Result<(), AllocError>
-    ensures text { OnOk result (out.new.items ≡ out.old.items ++ ended (hold_line path.now snap.now tag.now)) }
+    ensures text { OnOk result
+        (out.new.items ≡ out.old.items ++ ended (hold_line path.now snap.now tag.now)) }
     ensures valid { OnOk result (IsName tag_is_bad NAME_LIMIT tag.now) }
 {
     out.extend_from_slice(path)?;
@@ -138,7 +144,8 @@ pub fn print_holds(
     snap: &SnapName,
     tags: &[Tag],
 ) -> Result<Vec<u8>, NoMemory>
-    ensures text { IfOk result (λ text. text.items ≡ flat_map (λ tag. ended (hold_line path.now snap.now tag)) tags.now) }
+    ensures text { IfOk result
+        (λ text. text.items ≡ flat_map (λ tag. ended (hold_line path.now snap.now tag)) tags.now) }
     ensures read_back { IfOk result (λ text.
         AllPairs (λ a b. a ≢ b) tags.now → IsHoldListing path.now snap.now text.items tags.now) }
 {

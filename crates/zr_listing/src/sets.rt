@@ -72,7 +72,8 @@ impl Kind for Sets {
 pub fn read_sets(alloc: Global, bytes: &[u8]) -> Result<Rows<SetRow>, ListFault>
     ensures rows { IfOk result (IsSetListing bytes.now) }
     ensures names_differ { IfOk result IsSetList }
-    ensures only { IfOk result (λ rows. (others : List SetRow) → IsSetListing bytes.now others → others ≡ rows) }
+    ensures only { IfOk result
+        (λ rows. (others : List SetRow) → IsSetListing bytes.now others → others ≡ rows) }
     ensures garbled { IfErr result (IsBadAt IsSetLine (λ row. row.path) bytes.now) }
     ensures none { IsGarbled result → (rows : List SetRow) → IsSetListing bytes.now rows → ⊥ }
 {

@@ -147,9 +147,13 @@ pub fn read_versions(
 ) -> Result<Rows<VersionRow>, ListFault>
     ensures rows { IfOk result (IsVersionListing path.now bytes.now) }
     ensures in_order { IfOk result IsVersionList }
-    ensures only { IfOk result (λ rows. (others : List VersionRow) → IsVersionListing path.now bytes.now others → others ≡ rows) }
-    ensures garbled { IfErr result (IsBadAt (IsVersionLine path.now) (λ row. full_name path.now row.name) bytes.now) }
-    ensures none { IsGarbled result → (rows : List VersionRow) → IsVersionListing path.now bytes.now rows → ⊥ }
+    ensures only { IfOk result
+        (λ rows. (others : List VersionRow) → IsVersionListing path.now bytes.now others
+        → others ≡ rows) }
+    ensures garbled { IfErr result
+        (IsBadAt (IsVersionLine path.now) (λ row. full_name path.now row.name) bytes.now) }
+    ensures none { IsGarbled result → (rows : List VersionRow)
+        → IsVersionListing path.now bytes.now rows → ⊥ }
 {
     let mut rows = read_lines(alloc, &Versions { path }, bytes)?;
     sort_rows(&mut rows)?;

@@ -33,9 +33,11 @@ fn may_precede(one: &Version, other: &Version) -> bool
 
 fn may_precede_all(one: &Version, later: &[Version]) -> bool
     ensures in_order { IsTrue result →
-        All (λ other. stands_before one.now.txg one.now.name other.txg other.name ≡ true) later.now }
+        All (λ other. stands_before one.now.txg one.now.name other.txg other.name ≡ true)
+        later.now }
     ensures names_differ { IsTrue result → All (λ other. one.now.name ≢ other.name) later.now }
-    ensures only { All (λ other. stands_before one.now.txg one.now.name other.txg other.name ≡ true) later.now →
+    ensures only { All (λ other. stands_before one.now.txg one.now.name other.txg other.name ≡ true)
+        later.now →
         All (λ other. one.now.name ≢ other.name) later.now → IsTrue result }
 {
     later.iter().all(|other| may_precede(one, other))
@@ -100,7 +102,8 @@ fn is_each_version(next_txg: u64, versions: &[Version]) -> bool
     ensures tags_differ { IsTrue result → All (λ v. AllPairs (λ a b. a ≢ b) v.tags) versions.now }
     ensures marks_free { IsTrue result → All MarkIsFree versions.now }
     ensures made_before { IsTrue result → All (λ v. v.txg < next_txg) versions.now }
-    ensures only { All (λ v. AllPairs (λ a b. a ≢ b) v.tags) versions.now → All MarkIsFree versions.now →
+    ensures only { All (λ v. AllPairs (λ a b. a ≢ b) v.tags) versions.now
+        → All MarkIsFree versions.now →
         All (λ v. v.txg < next_txg) versions.now → IsTrue result }
 {
     versions.iter().all(|version| is_version(next_txg, version))
@@ -108,9 +111,11 @@ fn is_each_version(next_txg: u64, versions: &[Version]) -> bool
 
 fn is_dataset(next_txg: u64, set: &Dataset) -> bool
     ensures formed { IsTrue result → IsWellFormedSet next_txg set.now }
-    ensures only { AllPairs (λ a b. stands_before a.txg a.name b.txg b.name ≡ true) set.now.versions →
+    ensures only { AllPairs (λ a b. stands_before a.txg a.name b.txg b.name ≡ true) set.now.versions
+        →
         AllPairs (λ a b. a.name ≢ b.name) set.now.versions →
-        All (λ v. AllPairs (λ a b. a ≢ b) v.tags) set.now.versions → All MarkIsFree set.now.versions →
+        All (λ v. AllPairs (λ a b. a ≢ b) v.tags) set.now.versions → All MarkIsFree set.now.versions
+        →
         All (λ v. v.txg < next_txg) set.now.versions → IsTrue result }
 {
     let versions = set.versions.as_slice();
@@ -119,7 +124,8 @@ fn is_dataset(next_txg: u64, set: &Dataset) -> bool
 
 fn is_each_dataset(next_txg: u64, sets: &[Dataset]) -> bool
     ensures formed { IsTrue result → All (IsWellFormedSet next_txg) sets.now }
-    ensures only { All (λ s. AllPairs (λ a b. stands_before a.txg a.name b.txg b.name ≡ true) s.versions) sets.now →
+    ensures only { All (λ s.
+        AllPairs (λ a b. stands_before a.txg a.name b.txg b.name ≡ true) s.versions) sets.now →
         All (λ s. AllPairs (λ a b. a.name ≢ b.name) s.versions) sets.now →
         All (λ s. All (λ v. AllPairs (λ a b. a ≢ b) v.tags) s.versions) sets.now →
         All (λ s. All MarkIsFree s.versions) sets.now →
@@ -129,8 +135,10 @@ fn is_each_dataset(next_txg: u64, sets: &[Dataset]) -> bool
 }
 
 fn is_below_all(one: &Dataset, later: &[Dataset]) -> bool
-    ensures below { IsTrue result → All (λ other. is_below one.now.path other.path ≡ true) later.now }
-    ensures only { All (λ other. is_below one.now.path other.path ≡ true) later.now → IsTrue result }
+    ensures below { IsTrue result
+        → All (λ other. is_below one.now.path other.path ≡ true) later.now }
+    ensures only { All (λ other. is_below one.now.path other.path ≡ true) later.now
+        → IsTrue result }
 {
     later.iter().all(|other| one.path < other.path)
 }

@@ -120,7 +120,8 @@ fn recorded(
     exit: RunExit,
     out: &[u8],
 ) -> RunExit
-    ensures { IsRecorded history.old.items history.new.items (map string_bytes words.now) exit out.now result }
+    ensures { IsRecorded history.old.items history.new.items (map string_bytes words.now) exit
+        out.now result }
 {
     let Ok(line) = call_line(alloc, words, exit, out) else {
         return RunExit::NoMemory;
@@ -137,7 +138,8 @@ fn pipe_line(
     receive: &[String],
     exit: PipeExit,
 ) -> Result<Line, AllocError>
-    ensures { IfOk result (λ line. line ≡ pipe_line (map string_bytes send.now) (map string_bytes receive.now) exit) }
+    ensures { IfOk result (λ line. line
+        ≡ pipe_line (map string_bytes send.now) (map string_bytes receive.now) exit) }
 {
     Ok(Line::Pipe(Piped {
         send: words_of(alloc, send)?,

@@ -29,7 +29,8 @@ fn failed(faults: &mut u64) -> PipeExit
 
 /// The guid of a snapshot, if it is there.
 fn snap_guid(pools: &Pools, path: &Path, name: &SnapName) -> Option<Guid>
-    ensures { MatchOption result ((guid : Guid) → stands pools.entry.now path.now (Snap name.now) guid ≡ false)
+    ensures { MatchOption result
+        ((guid : Guid) → stands pools.entry.now path.now (Snap name.now) guid ≡ false)
         (λ guid. stands pools.entry.now path.now (Snap name.now) guid ≡ true) }
 {
     Some(pools.snap(path, name)?.guid)
@@ -37,7 +38,8 @@ fn snap_guid(pools: &Pools, path: &Path, name: &SnapName) -> Option<Guid>
 
 /// The guid of a bookmark, if it is there.
 fn mark_guid(pools: &Pools, path: &Path, name: &MarkName) -> Option<Guid>
-    ensures { MatchOption result ((guid : Guid) → stands pools.entry.now path.now (Mark name.now) guid ≡ false)
+    ensures { MatchOption result
+        ((guid : Guid) → stands pools.entry.now path.now (Mark name.now) guid ≡ false)
         (λ guid. stands pools.entry.now path.now (Mark name.now) guid ≡ true) }
 {
     Some(pools.mark(path, name)?.guid)
@@ -51,7 +53,8 @@ fn full_transfer(
     target: Path,
     force: bool,
 ) -> Option<Transfer>
-    ensures { FindsOne (AreEnds pools.entry.now (call.SendFull source to) (call.Receive target force)) result }
+    ensures { FindsOne (AreEnds pools.entry.now (call.SendFull source to)
+        (call.Receive target force)) result }
 {
     let guid = snap_guid(pools, &source, &to)?;
     Some(Transfer {
@@ -73,7 +76,8 @@ fn increment(
     target: Path,
     force: bool,
 ) -> Option<Transfer>
-    ensures { FindsOne (AreEnds pools.entry.now (call.SendFrom source mark to) (call.Receive target force)) result }
+    ensures { FindsOne (AreEnds pools.entry.now (call.SendFrom source mark to)
+        (call.Receive target force)) result }
 {
     let from = mark_guid(pools, &source, &mark)?;
     let guid = snap_guid(pools, &source, &to)?;
@@ -133,7 +137,8 @@ fn read_transfer(
     receive: &[String],
 ) -> Result<Option<Transfer>, NoMemory>
     ensures { IfOk result
-        (FindsOne (PipeGives (map string_bytes send.now) (map string_bytes receive.now) pools.entry.now)) }
+        (FindsOne (PipeGives (map string_bytes send.now) (map string_bytes receive.now)
+        pools.entry.now)) }
 {
     let Some(send) = read_call(alloc, send)? else {
         return Ok(None);
@@ -193,7 +198,8 @@ pub fn serve_pipe(
     requires { IsWellFormed pools.old }
     ensures cause { HasPipeCause faults.old faults.new result }
     ensures well_formed { IsWellFormed pools.new }
-    ensures does { DoesPipe (map string_bytes send.now) (map string_bytes receive.now) pools.old pools.new result }
+    ensures does { DoesPipe (map string_bytes send.now) (map string_bytes receive.now) pools.old
+        pools.new result }
     ensures planned { is_some plan ≡ true → result ≢ PipeExit.Done }
     ensures refused { plan ≡ None → result ≡ PipeExit.Failed →
         IsVain (map string_bytes send.now) (map string_bytes receive.now) pools.old }

@@ -114,7 +114,8 @@ fn command_in(call: Option<ZfsCall>) -> Option<Cmd>
 /// The command whose words these are.
 #[tactic(auto, using(crate::proofs::Calls::found_command))]
 fn read_command(alloc: Global, words: &[String]) -> Result<Option<Cmd>, NoMemory>
-    ensures { IfOk result (FindsOne (λ (given : Cmd). Spells (map string_bytes words.now) (One given))) }
+    ensures { IfOk result (FindsOne
+        (λ (given : Cmd). Spells (map string_bytes words.now) (One given))) }
 {
     Ok(command_in(read_call(alloc, words)?))
 }
@@ -174,7 +175,8 @@ pub fn serve(
     ensures full { result ≡ RunExit.TooLong → length out.new.items ≡ LISTING_LIMIT }
     ensures does { DoesWords (map string_bytes words.now) pools.old pools.new result out.new.items }
     ensures planned { is_some plan ≡ true → result ≢ RunExit.Done }
-    ensures refused { plan ≡ None → (given : Cmd) → Spells (map string_bytes words.now) (One given) →
+    ensures refused { plan ≡ None → (given : Cmd) → Spells (map string_bytes words.now) (One given)
+        →
         EndsUnplanned given pools.old result }
 {
     out.clear();

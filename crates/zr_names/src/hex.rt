@@ -25,7 +25,8 @@ fn push_hex(out: &mut Vec<u8>, digits: u8, n: u64) -> Result<(), AllocError>
 
 /// The value of a lower-case hexadecimal digit.
 fn hex_value(byte: u8) -> Option<u8>
-    ensures { MatchOption result ((n : ℕ) → n < 16 → byte ≢ hex_digit n) (λ n. (n < 16) × (byte ≡ hex_digit n)) }
+    ensures { MatchOption result ((n : ℕ) → n < 16 → byte ≢ hex_digit n)
+        (λ n. (n < 16) × (byte ≡ hex_digit n)) }
 {
     match byte {
         b'0'..=b'9' => Some(byte - b'0'),

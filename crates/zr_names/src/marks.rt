@@ -63,7 +63,8 @@ pub fn tag_of(alloc: Global, kind: TagKind, job: &JobName) -> Result<Tag, NoMemo
 
 /// What follows a front.
 fn after<'a>(text: &'a [u8], front: &[u8]) -> Option<&'a [u8]>
-    ensures { MatchOption result ((rest : List ℕ) → text.now ≢ front.now ++ rest) (λ rest. text.now ≡ front.now ++ rest.now) }
+    ensures { MatchOption result ((rest : List ℕ) → text.now ≢ front.now ++ rest)
+        (λ rest. text.now ≡ front.now ++ rest.now) }
 {
     text.strip_prefix(front)
 }
@@ -105,7 +106,8 @@ pub fn tentative_name(alloc: Global, guid: Guid, job: &JobName) -> Result<MarkNa
 
 /// The guid that stands before a job in what follows a front.
 fn guid_before(text: &[u8], job: &[u8]) -> Option<Guid>
-    ensures { MatchOption result ((guid : ℕ) → text.now ≢ guid_and_job guid job.now) (λ guid. text.now ≡ guid_and_job guid.0 job.now) }
+    ensures { MatchOption result ((guid : ℕ) → text.now ≢ guid_and_job guid job.now)
+        (λ guid. text.now ≡ guid_and_job guid.0 job.now) }
 {
     if text.len() < 16 {
         return None;
@@ -124,7 +126,8 @@ fn guid_before(text: &[u8], job: &[u8]) -> Option<Guid>
 }
 
 fn guid_after(name: &[u8], front: &[u8], job: &[u8]) -> Option<Guid>
-    ensures { MatchOption result ((guid : ℕ) → name.now ≢ front.now ++ guid_and_job guid job.now) (λ guid. name.now ≡ front.now ++ guid_and_job guid.0 job.now) }
+    ensures { MatchOption result ((guid : ℕ) → name.now ≢ front.now ++ guid_and_job guid job.now)
+        (λ guid. name.now ≡ front.now ++ guid_and_job guid.0 job.now) }
 {
     match after(name, front) {
         Some(rest) => guid_before(rest, job),

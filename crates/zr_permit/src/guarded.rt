@@ -49,13 +49,19 @@ impl<'a, Z: Zfs> Guarded<'a, Z> {
         ensures begun { IfOk result (λ g. HasJustBegun (sight Z.Zfs g)) }
         ensures faults { IfOk result (λ g. (sight Z.Zfs g).faults ≡ Z.faults runner.entry.now) }
         ensures pools { IfOk result (λ g. (sight Z.Zfs g).pools ≡ Z.pools runner.entry.now) }
-        ensures told { IfOk result (λ g. (sight Z.Zfs g).history ≡ appended (Z.history runner.entry.now) (Begin unit run ∷ [])) }
+        ensures told { IfOk result
+            (λ g. (sight Z.Zfs g).history
+            ≡ appended (Z.history runner.entry.now) (Begin unit run ∷ [])) }
         ensures same_runner { IfOk result (λ g. g.runner.ghost_name ≡ runner.entry.ghost_name) }
         ensures unbegun { IfErr result (λ u. u.unit ≡ unit) }
-        ensures unbegun_faults { IfErr result (λ u. Z.faults u.runner.now ≡ Z.faults runner.entry.now) }
-        ensures unbegun_pools { IfErr result (λ u. Z.pools u.runner.now ≡ Z.pools runner.entry.now) }
-        ensures unbegun_told { IfErr result (λ u. Z.history u.runner.now ≡ Z.history runner.entry.now) }
-        ensures unbegun_same_runner { IfErr result (λ u. u.runner.ghost_name ≡ runner.entry.ghost_name) }
+        ensures unbegun_faults { IfErr result
+            (λ u. Z.faults u.runner.now ≡ Z.faults runner.entry.now) }
+        ensures unbegun_pools { IfErr result
+            (λ u. Z.pools u.runner.now ≡ Z.pools runner.entry.now) }
+        ensures unbegun_told { IfErr result
+            (λ u. Z.history u.runner.now ≡ Z.history runner.entry.now) }
+        ensures unbegun_same_runner { IfErr result
+            (λ u. u.runner.ghost_name ≡ runner.entry.ghost_name) }
     {
         match runner.begin(&unit, run) {
             Ok(()) => Ok(Guarded {
@@ -82,7 +88,8 @@ impl<'a, Z: Zfs> Guarded<'a, Z> {
 
     pub fn transcript(&self) -> &[(Cmd, Answer)]
         ensures turns { result.now ≡ (sight Z.Zfs self.now).turns }
-        ensures legal { Legal (sight Z.Zfs self.now).jobs (sight Z.Zfs self.now).unit (sight Z.Zfs self.now).turns }
+        ensures legal { Legal (sight Z.Zfs self.now).jobs (sight Z.Zfs self.now).unit
+            (sight Z.Zfs self.now).turns }
     {
         self.log.turns()
     }
@@ -123,14 +130,18 @@ impl<'a, Z: Zfs> Guarded<'a, Z> {
 
     /// Gives a command, and keeps it with its answer. Where no room is left for them no child is started.
     pub fn run(&mut self, cmd: Cmd) -> Told
-        requires allowed { Allowed (sight Z.Zfs self.old).jobs (sight Z.Zfs self.old).unit (sight Z.Zfs self.old).turns cmd }
+        requires allowed { Allowed (sight Z.Zfs self.old).jobs (sight Z.Zfs self.old).unit
+            (sight Z.Zfs self.old).turns cmd }
         requires memory { (sight Z.Zfs self.old).out_of_memory ≡ false }
         ensures went { Went (sight Z.Zfs self.old) (sight Z.Zfs self.new) }
         ensures turns { Turns (sight Z.Zfs self.old).turns (sight Z.Zfs self.new).turns cmd result }
         ensures memory { (sight Z.Zfs self.new).out_of_memory ≡ is_no_memory result }
-        ensures rose { result ≡ Told.Failed → Rose (sight Z.Zfs self.old).faults (sight Z.Zfs self.new).faults }
-        ensures records { (base : Option (List Entry)) → IsRecordOf base (sight Z.Zfs self.old).history (sight Z.Zfs self.old).turns →
-            IsRecordAfter base (sight Z.Zfs self.new).history (sight Z.Zfs self.old).turns (sight Z.Zfs self.new).turns cmd result }
+        ensures rose { result ≡ Told.Failed
+            → Rose (sight Z.Zfs self.old).faults (sight Z.Zfs self.new).faults }
+        ensures records { (base : Option (List Entry))
+            → IsRecordOf base (sight Z.Zfs self.old).history (sight Z.Zfs self.old).turns →
+            IsRecordAfter base (sight Z.Zfs self.new).history (sight Z.Zfs self.old).turns
+            (sight Z.Zfs self.new).turns cmd result }
         ensures same_runner { self.new.runner.ghost_name ≡ self.old.runner.ghost_name }
     {
         if self.log.make_room().is_err() {

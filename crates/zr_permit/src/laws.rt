@@ -6,6 +6,7 @@ ghost use Rattle.zr_permit.specs.Turned.{calls};
 
 /// A record, in which a command stands as its words tell it, is read as one legal transcript at most.
 pub fn a_record_is_read_in_one_way()
-    ensures { (jobs : JobSet) (unit : Unit) (one other : Transcript) → Legal jobs unit one → Legal jobs unit other →
+    ensures { (jobs : JobSet) (unit : Unit) (one other : Transcript) → Legal jobs unit one
+        → Legal jobs unit other →
         calls one ≡ calls other → one ≡ other }
 {}

@@ -18,7 +18,8 @@ pub trait Source {
     /// Takes the next bytes into the front of `buf`, and answers how many. What stands behind them in `buf` is free.
     fn take(&mut self, buf: &mut [u8]) -> Result<usize, Failed>
         ensures fits { IfOk result (λ n. n ≤ length buf.new) }
-        ensures taken { IfOk result (λ n. left self.old ≡ prepend_known (take n buf.new) (left self.new)) }
+        ensures taken { IfOk result
+            (λ n. left self.old ≡ prepend_known (take n buf.new) (left self.new)) }
         ensures end { 0 < length buf.old → IfOk result (IsNoneAtEnd (left self.old)) }
 
         // A take that fails takes nothing.
@@ -51,11 +52,14 @@ pub trait Sink {
         ensures front { OnErr result (WroteFront (written self.old) (written self.new) bytes.now) }
 
         // Where memory is wanting, nothing was written.
-        ensures no_memory_writes_nothing { result ≡ Err PutFault.NoMemory → written self.new ≡ written self.old }
+        ensures no_memory_writes_nothing { result ≡ Err PutFault.NoMemory
+            → written self.new ≡ written self.old }
 
         // The count rises where a put fails, and only there: want of memory is no fault of the sink.
-        ensures failed_rose { result ≡ Err PutFault.Failed → Rose (faults self.old) (faults self.new) }
+        ensures failed_rose { result ≡ Err PutFault.Failed
+            → Rose (faults self.old) (faults self.new) }
         ensures ok_keeps { OnOk result (faults self.new ≡ faults self.old) }
-        ensures no_memory_keeps { result ≡ Err PutFault.NoMemory → faults self.new ≡ faults self.old }
+        ensures no_memory_keeps { result ≡ Err PutFault.NoMemory
+            → faults self.new ≡ faults self.old }
         ensures never_falls { faults self.old ≤ faults self.new };
 }

@@ -61,11 +61,14 @@ impl Sink for MemSink {
 
     /// A put that fails, for whatever cause, writes nothing.
     fn put(&mut self, bytes: &[u8]) -> Result<(), PutFault>
-        ensures listed { (result ≡ Err PutFault.Failed) ↔ Contains self.old.failing (raised self.old.calls) }
+        ensures listed { (result ≡ Err PutFault.Failed)
+            ↔ Contains self.old.failing (raised self.old.calls) }
         ensures ok { OnOk result (self.new.written ≡ self.old.written ++ bytes.now) }
         ensures err { OnErr result (self.new.written ≡ self.old.written) }
-        ensures front { OnErr result (WroteFront (Some self.old.written) (Some self.new.written) bytes.now) }
-        ensures failed_counts { result ≡ Err PutFault.Failed → self.new.faults ≡ raised self.old.faults }
+        ensures front { OnErr result
+            (WroteFront (Some self.old.written) (Some self.new.written) bytes.now) }
+        ensures failed_counts { result ≡ Err PutFault.Failed
+            → self.new.faults ≡ raised self.old.faults }
         ensures others_keep { result ≢ Err PutFault.Failed → self.new.faults ≡ self.old.faults }
         ensures never_falls { self.old.faults ≤ self.new.faults }
         ensures calls { self.new.calls ≡ raised self.old.calls }

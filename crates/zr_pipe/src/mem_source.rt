@@ -27,7 +27,8 @@ impl Model for MemSource {
 impl MemSource {
     /// `failing` has the numbers of the takes that fail, counted from 1.
     pub fn new(bytes: Vec<u8>, failing: Vec<u64>) -> MemSource
-        ensures { result ≡ record { left = bytes.items; failing = failing.items; calls = 0; faults = 0 } }
+        ensures { result ≡ record
+            { left = bytes.items; failing = failing.items; calls = 0; faults = 0 } }
     {
         MemSource {
             bytes,

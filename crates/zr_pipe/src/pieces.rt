@@ -28,8 +28,10 @@ pub enum RelayEnd {
 /// Moves the bytes of `from` to `to`, piece by piece, until the source ends or either fails.
 /// One buffer of `PIECE` bytes serves the whole relay: the source fills it, and the sink is lent what stands in it.
 pub fn relay<F: Source, T: Sink>(alloc: Global, from: &mut F, to: &mut T) -> RelayEnd
-    ensures relayed { Relayed (F.left from.old) (F.left from.new) (T.written to.old) (T.written to.new) result }
-    ensures source_counts { CountsFault (is_read_fault result) (F.faults from.old) (F.faults from.new) }
+    ensures relayed { Relayed (F.left from.old) (F.left from.new) (T.written to.old)
+        (T.written to.new) result }
+    ensures source_counts { CountsFault (is_read_fault result) (F.faults from.old)
+        (F.faults from.new) }
     ensures sink_counts { CountsFault (is_write_fault result) (T.faults to.old) (T.faults to.new) }
 {
     match vec![in alloc; 0u8; PIECE] {
@@ -40,8 +42,10 @@ pub fn relay<F: Source, T: Sink>(alloc: Global, from: &mut F, to: &mut T) -> Rel
 
 fn relay_through<F: Source, T: Sink>(buffer: &mut [u8], from: &mut F, to: &mut T) -> RelayEnd
     requires { length buffer.old ≡ piece_max }
-    ensures relayed { Relayed (F.left from.old) (F.left from.new) (T.written to.old) (T.written to.new) result }
-    ensures source_counts { CountsFault (is_read_fault result) (F.faults from.old) (F.faults from.new) }
+    ensures relayed { Relayed (F.left from.old) (F.left from.new) (T.written to.old)
+        (T.written to.new) result }
+    ensures source_counts { CountsFault (is_read_fault result) (F.faults from.old)
+        (F.faults from.new) }
     ensures sink_counts { CountsFault (is_write_fault result) (T.faults to.old) (T.faults to.new) }
 {
     let mut moved = 0;
@@ -65,14 +69,18 @@ fn move_piece<F: Source, T: Sink>(
     requires some { 0 < length buffer.old }
     requires small { length buffer.old ≤ piece_max }
     requires limited { moved + length buffer.old ≤ relay_max }
-    ensures carried { IfOk result (Carried (F.left from.old) (F.left from.new) (T.written to.old) (T.written to.new)) }
+    ensures carried { IfOk result
+        (Carried (F.left from.old) (F.left from.new) (T.written to.old) (T.written to.new)) }
     ensures some { IfOk result (λ count. 0 < count) }
     ensures limited { IfOk result (λ count. moved + count ≤ relay_max) }
     ensures source_keeps { OnOk result (F.faults from.new ≡ F.faults from.old) }
     ensures sink_keeps { OnOk result (T.faults to.new ≡ T.faults to.old) }
-    ensures stopped { IfErr result (Stopped (F.left from.old) (F.left from.new) (T.written to.old) (T.written to.new) moved) }
-    ensures source_counts { IfErr result (λ end. CountsFault (is_read_fault end) (F.faults from.old) (F.faults from.new)) }
-    ensures sink_counts { IfErr result (λ end. CountsFault (is_write_fault end) (T.faults to.old) (T.faults to.new)) }
+    ensures stopped { IfErr result
+        (Stopped (F.left from.old) (F.left from.new) (T.written to.old) (T.written to.new) moved) }
+    ensures source_counts { IfErr result
+        (λ end. CountsFault (is_read_fault end) (F.faults from.old) (F.faults from.new)) }
+    ensures sink_counts { IfErr result
+        (λ end. CountsFault (is_write_fault end) (T.faults to.old) (T.faults to.new)) }
 {
     let count = match from.take(buffer) {
         Ok(0) => return Err(RelayEnd::Whole(moved)),
@@ -90,8 +98,10 @@ fn move_piece<F: Source, T: Sink>(
 fn end_at_limit<F: Source>(buffer: &mut [u8], from: &mut F) -> RelayEnd
     requires some { 0 < length buffer.old }
     requires small { length buffer.old ≤ piece_max }
-    ensures stopped { (written : Option (List ℕ)) → Stopped (F.left from.old) (F.left from.new) written written relay_max result }
-    ensures source_counts { CountsFault (is_read_fault result) (F.faults from.old) (F.faults from.new) }
+    ensures stopped { (written : Option (List ℕ))
+        → Stopped (F.left from.old) (F.left from.new) written written relay_max result }
+    ensures source_counts { CountsFault (is_read_fault result) (F.faults from.old)
+        (F.faults from.new) }
     ensures sink_held { is_write_fault result ≡ false }
 {
     match from.take(buffer) {

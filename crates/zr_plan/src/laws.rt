@@ -15,14 +15,16 @@ pub fn a_known_last_snapshot_goes_on()
     ensures { (job : List ℕ) (source : List VersionRow) (target : Onto) (initial : Initial)
         (last : VersionRow) →
         target.there ≡ true → target.partial ≡ None → newest target.rows ≡ Some last →
-        is_some (own_version job source last.guid) ≡ true → GoesOn (plan_of job source target initial) }
+        is_some (own_version job source last.guid) ≡ true
+        → GoesOn (plan_of job source target initial) }
 {}
 
 /// A partial receive that can go on, of a snapshot that the source has, is resumed.
 pub fn a_partial_receive_that_can_go_on_is_resumed()
     ensures { (job : List ℕ) (source : List VersionRow) (target : Onto) (initial : Initial)
         (partial : TokenInfo) →
-        target.partial ≡ Some partial → can_go_on job source partial.from (newest target.rows) ≡ true →
+        target.partial ≡ Some partial
+        → can_go_on job source partial.from (newest target.rows) ≡ true →
         list_any (is_snap_of partial.to) source ≡ true →
         IsResumeOf partial.to (plan_of job source target initial) }
 {}
@@ -35,7 +37,8 @@ pub fn an_up_to_date_target_has_caught_up()
 
 /// A target that has something is never sent a snapshot in full.
 pub fn what_is_there_is_only_added_to()
-    ensures { (job : List ℕ) (source : List VersionRow) (target : Onto) (initial : Initial) (steps : List Step) →
+    ensures { (job : List ℕ) (source : List VersionRow) (target : Onto) (initial : Initial)
+        (steps : List Step) →
         has_nothing target ≡ false → plan_of job source target initial ≡ Steps steps →
         list_any (λ step. step.full) steps ≡ false }
 {}

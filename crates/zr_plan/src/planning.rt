@@ -101,7 +101,8 @@ fn newest_common<'a>(
     source: &Source<'_>,
     target: &Target<'a>,
 ) -> Option<&'a VersionRow>
-    ensures { option_copied result ≡ newest_common job.now (rows_of source.now) (onto target.now).rows }
+    ensures { option_copied result
+        ≡ newest_common job.now (rows_of source.now) (onto target.now).rows }
 {
     if let Some(row) = last_common(job, source, target.arrived) {
         Some(row)
@@ -112,7 +113,8 @@ fn newest_common<'a>(
 
 /// The greatest of a transaction group and those of the snapshots with a guid.
 fn latest_among(rows: &[VersionRow], guid: Guid, txg: u64) -> u64
-    ensures { (row : VersionRow) → nat_lt result row.txg ≡ (nat_lt txg row.txg && is_after_snaps rows.now guid row) }
+    ensures { (row : VersionRow)
+        → nat_lt result row.txg ≡ (nat_lt txg row.txg && is_after_snaps rows.now guid row) }
 {
     let mut latest = txg;
     for row in rows {
@@ -126,7 +128,8 @@ fn latest_among(rows: &[VersionRow], guid: Guid, txg: u64) -> u64
 /// The greatest transaction group of a version of a guid and of the snapshots with this guid.
 #[tactic(auto, using(crate::proofs::Sides::is_later_both))]
 fn latest_txg(source: &Source<'_>, guid: Guid, own: &VersionRow) -> u64
-    ensures { (row : VersionRow) → nat_lt result row.txg ≡ is_later (rows_of source.now) guid own.now row }
+    ensures { (row : VersionRow)
+        → nat_lt result row.txg ≡ is_later (rows_of source.now) guid own.now row }
 {
     let listed = latest_among(source.listing, guid, own.txg);
     latest_among(source.marks, guid, listed)
@@ -168,7 +171,8 @@ fn steps_of(alloc: Global, source: &Source<'_>) -> Result<Rows<Step>, NoMemory>
 
 /// Adds the increments to the snapshots that come after a transaction group.
 fn push_later(steps: &mut Rows<Step>, rows: &[VersionRow], latest: u64) -> Result<(), NoMemory>
-    ensures { OnOk result (steps.new ≡ steps.old ++ steps_of (filter (λ row. nat_lt latest row.txg) rows.now)) }
+    ensures { OnOk result (steps.new
+        ≡ steps.old ++ steps_of (filter (λ row. nat_lt latest row.txg) rows.now)) }
 {
     for row in rows {
         if latest < row.txg {
@@ -185,7 +189,8 @@ fn later_steps(
     guid: Guid,
     own: &VersionRow,
 ) -> Result<Rows<Step>, NoMemory>
-    ensures { IfOk result (λ steps. steps ≡ steps_of (filter (is_later (rows_of source.now) guid own.now) (rows_of source.now))) }
+    ensures { IfOk result (λ steps. steps
+        ≡ steps_of (filter (is_later (rows_of source.now) guid own.now) (rows_of source.now))) }
 {
     let latest = latest_txg(source, guid, own);
     let mut steps = Rows::new(alloc);
@@ -195,7 +200,8 @@ fn later_steps(
 }
 
 fn newest_step(alloc: Global, source: &Source<'_>) -> Result<Rows<Step>, NoMemory>
-    ensures { IfOk result (λ steps. steps ≡ steps_of (option_to_list (newest (rows_of source.now)))) }
+    ensures { IfOk result (λ steps. steps
+        ≡ steps_of (option_to_list (newest (rows_of source.now)))) }
 {
     let mut steps = Rows::new(alloc);
     if let Some(row) = newest_of(source) {
@@ -322,7 +328,8 @@ pub fn plan(
     target: &Target<'_>,
     initial: Initial,
 ) -> Result<Planned, NoMemory>
-    ensures { IfOk result (λ planned. planned ≡ plan_of job.now (rows_of source.now) (onto target.now) initial) }
+    ensures { IfOk result (λ planned. planned
+        ≡ plan_of job.now (rows_of source.now) (onto target.now) initial) }
 {
     let last = newest_onto(target);
     if let Some(partial) = target.partial {

@@ -46,11 +46,15 @@ fn list<Z: Zfs>(unit: &mut Guarded<'_, Z>, path: &Path) -> Told
     requires begun { HasJustBegun (sight Z.Zfs unit.old) }
     requires own { (sight Z.Zfs unit.old).unit.work ≡ work.PruneSource path.now }
     ensures went { Went (sight Z.Zfs unit.old) (sight Z.Zfs unit.new) }
-    ensures turns { Turns (sight Z.Zfs unit.old).turns (sight Z.Zfs unit.new).turns (cmd.Versions path.now) result }
+    ensures turns { Turns (sight Z.Zfs unit.old).turns (sight Z.Zfs unit.new).turns
+        (cmd.Versions path.now) result }
     ensures memory { is_no_memory result ≡ false → (sight Z.Zfs unit.new).out_of_memory ≡ false }
-    ensures rose { result ≡ Told.Failed → Rose (sight Z.Zfs unit.old).faults (sight Z.Zfs unit.new).faults }
-    ensures records { (base : Option (List Entry)) → IsRecordOf base (sight Z.Zfs unit.old).history (sight Z.Zfs unit.old).turns →
-        IsRecordAfter base (sight Z.Zfs unit.new).history (sight Z.Zfs unit.old).turns (sight Z.Zfs unit.new).turns (cmd.Versions path.now) result }
+    ensures rose { result ≡ Told.Failed
+        → Rose (sight Z.Zfs unit.old).faults (sight Z.Zfs unit.new).faults }
+    ensures records { (base : Option (List Entry))
+        → IsRecordOf base (sight Z.Zfs unit.old).history (sight Z.Zfs unit.old).turns →
+        IsRecordAfter base (sight Z.Zfs unit.new).history (sight Z.Zfs unit.old).turns
+        (sight Z.Zfs unit.new).turns (cmd.Versions path.now) result }
     ensures same_runner { unit.new.runner.ghost_name ≡ unit.old.runner.ghost_name }
 {
     match versions(path) {
@@ -67,7 +71,8 @@ fn doomed_names<Z: Zfs>(
 ) -> Result<Vec<SnapName>, AllocError>
     requires { IsListed (sight Z.Zfs unit.now).turns path.now }
     ensures { IfOk result (λ names. names.items
-        ≡ doomed_in (sight Z.Zfs unit.now).jobs (sight Z.Zfs unit.now).unit.job (listed path.now (sight Z.Zfs unit.now).turns)) }
+        ≡ doomed_in (sight Z.Zfs unit.now).jobs (sight Z.Zfs unit.now).unit.job
+        (listed path.now (sight Z.Zfs unit.now).turns)) }
 {
     let rules = unit.jobs().rules(unit.unit().job);
     match unit.last() {
@@ -85,8 +90,10 @@ fn destroy<Z: Zfs>(unit: &mut Guarded<'_, Z>, path: &Path, names: &[SnapName], p
     ensures turns { Turns (sight Z.Zfs unit.old).turns (sight Z.Zfs unit.new).turns
         (cmd.DestroySnap path.now (slice_index_or names.now place [])) result }
     ensures memory { is_no_memory result ≡ false → (sight Z.Zfs unit.new).out_of_memory ≡ false }
-    ensures records { (base : Option (List Entry)) → IsRecordOf base (sight Z.Zfs unit.old).history (sight Z.Zfs unit.old).turns →
-        IsRecordAfter base (sight Z.Zfs unit.new).history (sight Z.Zfs unit.old).turns (sight Z.Zfs unit.new).turns
+    ensures records { (base : Option (List Entry))
+        → IsRecordOf base (sight Z.Zfs unit.old).history (sight Z.Zfs unit.old).turns →
+        IsRecordAfter base (sight Z.Zfs unit.new).history (sight Z.Zfs unit.old).turns
+        (sight Z.Zfs unit.new).turns
         (cmd.DestroySnap path.now (slice_index_or names.now place [])) result }
     ensures same_runner { unit.new.runner.ghost_name ≡ unit.old.runner.ghost_name }
 {

@@ -92,7 +92,8 @@ impl<'a, 'b, Z: Zfs> Replication<'a, 'b, Z> {
         requires at_work { AtWork pair.now (progress Z.Zfs self.old) }
         requires fresh { (progress Z.Zfs self.old).unit.turns ≡ [] }
         requires nothing { self.old.known.now ≡ nothing_known }
-        ensures ended { HasEndedAs (progress Z.Zfs self.old) (progress Z.Zfs self.new) (either_of result) }
+        ensures ended { HasEndedAs (progress Z.Zfs self.old) (progress Z.Zfs self.new)
+            (either_of result) }
         ensures lent { self.new.unit.ghost_name ≡ self.old.unit.ghost_name }
     {
         self.list_everything(pair)?;

@@ -21,7 +21,8 @@ impl<'a, 'b, Z: Zfs> Replication<'a, 'b, Z> {
         requires at_work { AtWork pair.now (progress Z.Zfs self.old) }
         requires may { MayHoldStep self.old.known.now name.now }
         ensures stage { Stage pair.now (progress Z.Zfs self.old) (progress Z.Zfs self.new) result }
-        ensures known { OnOk result (StepHoldIs true name.now self.old.known.now self.new.known.now) }
+        ensures known { OnOk result
+            (StepHoldIs true name.now self.old.known.now self.new.known.now) }
     {
         match commands::step_hold(pair, name) {
             Ok(cmd) => self.change(pair, cmd),
@@ -34,7 +35,8 @@ impl<'a, 'b, Z: Zfs> Replication<'a, 'b, Z> {
         requires at_work { AtWork pair.now (progress Z.Zfs self.old) }
         requires may { MayHoldLast pair.now self.old.known.now name.now }
         ensures stage { Stage pair.now (progress Z.Zfs self.old) (progress Z.Zfs self.new) result }
-        ensures known { OnOk result (LastHoldIs true name.now self.old.known.now self.new.known.now) }
+        ensures known { OnOk result
+            (LastHoldIs true name.now self.old.known.now self.new.known.now) }
     {
         match commands::last_hold(pair, name) {
             Ok(cmd) => self.change(pair, cmd),
@@ -47,7 +49,8 @@ impl<'a, 'b, Z: Zfs> Replication<'a, 'b, Z> {
         requires at_work { AtWork pair.now (progress Z.Zfs self.old) }
         requires may { MayReleaseLast self.old.known.now name.now }
         ensures stage { Stage pair.now (progress Z.Zfs self.old) (progress Z.Zfs self.new) result }
-        ensures known { OnOk result (LastHoldIs false name.now self.old.known.now self.new.known.now) }
+        ensures known { OnOk result
+            (LastHoldIs false name.now self.old.known.now self.new.known.now) }
     {
         match commands::last_release(pair, name) {
             Ok(cmd) => self.change(pair, cmd),
@@ -60,7 +63,8 @@ impl<'a, 'b, Z: Zfs> Replication<'a, 'b, Z> {
         requires at_work { AtWork pair.now (progress Z.Zfs self.old) }
         requires may { MayReleaseStep pair.now self.old.known.now name.now }
         ensures stage { Stage pair.now (progress Z.Zfs self.old) (progress Z.Zfs self.new) result }
-        ensures known { OnOk result (StepHoldIs false name.now self.old.known.now self.new.known.now) }
+        ensures known { OnOk result
+            (StepHoldIs false name.now self.old.known.now self.new.known.now) }
     {
         match commands::step_release(pair, name) {
             Ok(cmd) => self.change(pair, cmd),

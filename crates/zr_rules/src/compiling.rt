@@ -94,7 +94,9 @@ pub fn have_grids(specs: &[RuleSpec]) -> bool
 fn build<P: Patterns>(patterns: &mut P, text: &PatternText) -> Result<Pattern, BuildFault>
     ensures text { IfOk result (λ pattern. pattern ≡ text.now) }
     ensures readable { OnOk result (is_readable text.now ≡ true) }
-    ensures cause { IfErr result (BuildCause (Some text.now) (P.refusals patterns.old) (P.refused_last patterns.old) (P.refusals patterns.new) (P.refused_last patterns.new)) }
+    ensures cause { IfErr result
+        (BuildCause (Some text.now) (P.refusals patterns.old) (P.refused_last patterns.old)
+        (P.refusals patterns.new) (P.refused_last patterns.new)) }
     ensures count { OnOk result (P.refusals patterns.new ≡ P.refusals patterns.old) }
     ensures last { OnOk result (P.refused_last patterns.new ≡ P.refused_last patterns.old) }
 {
@@ -112,7 +114,9 @@ fn build_some<P: Patterns>(
 ) -> Result<Option<Pattern>, BuildFault>
     ensures text { IfOk result (λ pattern. pattern ≡ text.now) }
     ensures readable { OnOk result (IfSome text.now (λ text. is_readable text ≡ true)) }
-    ensures cause { IfErr result (BuildCause text.now (P.refusals patterns.old) (P.refused_last patterns.old) (P.refusals patterns.new) (P.refused_last patterns.new)) }
+    ensures cause { IfErr result
+        (BuildCause text.now (P.refusals patterns.old) (P.refused_last patterns.old)
+        (P.refusals patterns.new) (P.refused_last patterns.new)) }
     ensures count { OnOk result (P.refusals patterns.new ≡ P.refusals patterns.old) }
     ensures last { OnOk result (P.refused_last patterns.new ≡ P.refused_last patterns.old) }
 {
@@ -129,7 +133,9 @@ fn build_some<P: Patterns>(
 fn compile_rule<P: Patterns>(patterns: &mut P, spec: &RuleSpec) -> Result<Rule, BuildFault>
     ensures rule { IfOk result (λ rule. spec_of rule ≡ spec.now) }
     ensures readable { OnOk result (IsReadable spec.now) }
-    ensures cause { IfErr result (BuildCause (pattern_in spec.now) (P.refusals patterns.old) (P.refused_last patterns.old) (P.refusals patterns.new) (P.refused_last patterns.new)) }
+    ensures cause { IfErr result
+        (BuildCause (pattern_in spec.now) (P.refusals patterns.old) (P.refused_last patterns.old)
+        (P.refusals patterns.new) (P.refused_last patterns.new)) }
     ensures count { OnOk result (P.refusals patterns.new ≡ P.refusals patterns.old) }
     ensures last { OnOk result (P.refused_last patterns.new ≡ P.refused_last patterns.old) }
 {
@@ -169,7 +175,9 @@ pub fn compile<P: Patterns>(
     requires { All HasGrid specs.now }
     ensures rules { IfOk result (λ rules. rules ≡ specs.now) }
     ensures readable { OnOk result (All IsReadable specs.now) }
-    ensures cause { IfErr result (RuleCause specs.now (P.refusals patterns.old) (P.refused_last patterns.old) (P.refusals patterns.new) (P.refused_last patterns.new)) }
+    ensures cause { IfErr result
+        (RuleCause specs.now (P.refusals patterns.old) (P.refused_last patterns.old)
+        (P.refusals patterns.new) (P.refused_last patterns.new)) }
     ensures count { OnOk result (P.refusals patterns.new ≡ P.refusals patterns.old) }
     ensures last { OnOk result (P.refused_last patterns.new ≡ P.refused_last patterns.old) }
 {

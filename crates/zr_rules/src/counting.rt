@@ -67,7 +67,9 @@ pub(crate) fn mark_grid(
     requires marks { length marks.old ≡ length rows.now }
     requires order { IsOrder rows.now order.now }
     requires grid { IsGrid spec.now.intervals }
-    ensures marked { OnOk result (AlsoMarks (λ i row. grid_kept spec.now.intervals (map (seen pattern.now) rows.now) i (seen pattern.now row)) rows.now marks.old marks.new) }
+    ensures marked { OnOk result
+        (AlsoMarks (λ i row. grid_kept spec.now.intervals (map (seen pattern.now) rows.now) i
+        (seen pattern.now row)) rows.now marks.old marks.new) }
     ensures as_long { length marks.new ≡ length marks.old }
 {
     let rows_seen = seen_in_order(alloc, pattern, rows, order)?;
@@ -87,7 +89,9 @@ pub(crate) fn mark_newest(
 ) -> Result<(), AllocError>
     requires marks { length marks.old ≡ length rows.now }
     requires order { IsOrder rows.now order.now }
-    ensures marked { OnOk result (AlsoMarks (λ i row. is_of_newest count (map (seen pattern.now) rows.now) i (seen pattern.now row)) rows.now marks.old marks.new) }
+    ensures marked { OnOk result
+        (AlsoMarks (λ i row. is_of_newest count (map (seen pattern.now) rows.now) i
+        (seen pattern.now row)) rows.now marks.old marks.new) }
     ensures as_long { length marks.new ≡ length marks.old }
 {
     let rows_seen = seen_in_order(alloc, pattern, rows, order)?;

@@ -28,7 +28,9 @@ fn mark(
     requires marks { length marks.old ≡ length rows.now }
     requires order { IsOrder rows.now order.now }
     requires grid { HasGrid (spec_of rule.now) }
-    ensures marked { OnOk result (AlsoMarks (λ i row. keeps rows.now cursor i row (spec_of rule.now)) rows.now marks.old marks.new) }
+    ensures marked { OnOk result
+        (AlsoMarks (λ i row. keeps rows.now cursor i row (spec_of rule.now)) rows.now marks.old
+        marks.new) }
     ensures as_long { length marks.new ≡ length marks.old }
 {
     match rule {
@@ -54,7 +56,9 @@ fn mark_all(
     requires marks { length marks.old ≡ length rows.now }
     requires order { IsOrder rows.now order.now }
     requires grids { All HasGrid (map spec_of rules.now) }
-    ensures marked { OnOk result (AlsoMarks (retained (map spec_of rules.now) rows.now cursor) rows.now marks.old marks.new) }
+    ensures marked { OnOk result
+        (AlsoMarks (retained (map spec_of rules.now) rows.now cursor) rows.now marks.old
+        marks.new) }
     ensures as_long { length marks.new ≡ length marks.old }
 {
     for rule in rules {

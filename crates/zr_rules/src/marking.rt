@@ -27,7 +27,8 @@ pub(crate) fn mark_unreplicated(
     marks: &mut [bool],
 )
     requires { length marks.old ≡ length rows.now }
-    ensures { AlsoMarks (λ i row. is_unreplicated at_cursor cursor row.txg) rows.now marks.old marks.new }
+    ensures { AlsoMarks (λ i row. is_unreplicated at_cursor cursor row.txg) rows.now marks.old
+        marks.new }
 {
     for (i, row) in rows.iter().enumerate() {
         if is_unreplicated(at_cursor, cursor, row.txg) {
@@ -45,7 +46,9 @@ pub(crate) fn mark_matching(
     marks: &mut [bool],
 ) -> Result<(), AllocError>
     requires { length marks.old ≡ length rows.now }
-    ensures marked { OnOk result (AlsoMarks (λ i row. if negate then not (finds pattern.now row.name) else finds pattern.now row.name) rows.now marks.old marks.new) }
+    ensures marked { OnOk result
+        (AlsoMarks (λ i row. if negate then not (finds pattern.now row.name)
+        else finds pattern.now row.name) rows.now marks.old marks.new) }
     ensures as_long { length marks.new ≡ length marks.old }
 {
     let mut matcher = pattern.matcher(alloc)?;

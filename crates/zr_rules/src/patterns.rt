@@ -45,10 +45,14 @@ pub trait Patterns {
         ensures read { IfOk result IsReadFromSource }
 
         // The count rises where a text is refused, and that text is told; other answers leave both.
-        ensures refused_rose { result ≡ Err BuildFault.Refused → Rose (refusals self.old) (refusals self.new) }
-        ensures refused_tells { result ≡ Err BuildFault.Refused → refused_last self.new ≡ Some pattern.now }
-        ensures others_count { result ≢ Err BuildFault.Refused → refusals self.new ≡ refusals self.old }
-        ensures others_tell { result ≢ Err BuildFault.Refused → refused_last self.new ≡ refused_last self.old }
+        ensures refused_rose { result ≡ Err BuildFault.Refused
+            → Rose (refusals self.old) (refusals self.new) }
+        ensures refused_tells { result ≡ Err BuildFault.Refused
+            → refused_last self.new ≡ Some pattern.now }
+        ensures others_count { result ≢ Err BuildFault.Refused
+            → refusals self.new ≡ refusals self.old }
+        ensures others_tell { result ≢ Err BuildFault.Refused
+            → refused_last self.new ≡ refused_last self.old }
         ensures never_falls { refusals self.old ≤ refusals self.new };
 }
 
@@ -101,7 +105,12 @@ impl RegexPatterns {
 
     /// Counts a refused text, and says whether it did: where its text can't be kept, nothing changes.
     fn counts(&mut self, pattern: &str) -> bool
-        ensures counted { IsTrue result → self.new ≡ record { count = min (self.old.count + 1) (2 ^ 64 - 1); last = Some pattern.now } }
+        ensures counted { IsTrue result
+            → self.new ≡ record {
+              count = min (self.old.count + 1) (2 ^ 64 - 1);
+              last = Some
+                  pattern.now;
+            } }
         ensures unchanged { result ≡ false → self.new ≡ self.old }
         ensures never_falls { self.old.count ≤ self.new.count }
     {

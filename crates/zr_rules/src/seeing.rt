@@ -25,7 +25,8 @@ pub(crate) fn text_of(name: &SnapName) -> &str
 }
 
 pub(crate) fn is_found(matcher: &mut Matcher<'_>, name: &str) -> bool
-    ensures found { (text : _) → FindsAs (matcher_pattern matcher.old) text → result ≡ finds text name.now }
+    ensures found { (text : _) → FindsAs (matcher_pattern matcher.old) text
+        → result ≡ finds text name.now }
     ensures same { matcher_pattern matcher.new ≡ matcher_pattern matcher.old }
 {
     matcher.is_match(name)
@@ -37,7 +38,8 @@ fn all_in_order(
     order: &[Placed],
 ) -> Result<Vec<GridRow>, AllocError>
     requires { All (λ one. one.place < length rows.now) order.now }
-    ensures { IfOk result (λ rows_seen. rows_seen.items ≡ in_places (map (seen None) rows.now) order.now) }
+    ensures { IfOk result (λ rows_seen. rows_seen.items
+        ≡ in_places (map (seen None) rows.now) order.now) }
 {
     let mut rows_seen = Vec::with_capacity(alloc, order.len())?;
     for one in order {
@@ -58,7 +60,8 @@ fn found_in_order(
     order: &[Placed],
 ) -> Result<Vec<GridRow>, AllocError>
     requires { All (λ one. one.place < length rows.now) order.now }
-    ensures { IfOk result (λ rows_seen. rows_seen.items ≡ in_places (map (seen (Some pattern.now)) rows.now) order.now) }
+    ensures { IfOk result (λ rows_seen. rows_seen.items
+        ≡ in_places (map (seen (Some pattern.now)) rows.now) order.now) }
 {
     let mut matcher = pattern.matcher(alloc)?;
     let mut rows_seen = Vec::with_capacity(alloc, order.len())?;
@@ -81,7 +84,8 @@ pub(crate) fn seen_in_order(
     order: &[Placed],
 ) -> Result<Vec<GridRow>, AllocError>
     requires { All (λ one. one.place < length rows.now) order.now }
-    ensures { IfOk result (λ rows_seen. rows_seen.items ≡ in_places (map (seen pattern.now) rows.now) order.now) }
+    ensures { IfOk result (λ rows_seen. rows_seen.items
+        ≡ in_places (map (seen pattern.now) rows.now) order.now) }
 {
     match pattern {
         Some(pattern) => found_in_order(alloc, pattern, rows, order),

@@ -18,8 +18,10 @@ fn first_comma(text: &[u8]) -> Option<usize>
 /// What comes before the first comma, and what comes after it.
 #[tactic(auto, using(crate::proofs::Parts::cut_some, crate::proofs::Parts::cut_none, crate::proofs::Parts::place_within))]
 fn cut_at_comma(text: &[u8]) -> (&[u8], Option<&[u8]>)
-    ensures parts { parted is_comma text.now ≡ result.0.now ∷ parts_after (option_map (λ more. more.now) result.1) }
-    ensures lengths { length result.0.now + length_after (option_map (λ more. more.now) result.1) ≡ length text.now }
+    ensures parts { parted is_comma text.now
+        ≡ result.0.now ∷ parts_after (option_map (λ more. more.now) result.1) }
+    ensures lengths { length result.0.now + length_after (option_map (λ more. more.now) result.1)
+        ≡ length text.now }
 {
     match first_comma(text) {
         Some(end) => (&text[..end], Some(&text[end + 1..])),

@@ -31,7 +31,8 @@ fn first_time(spec: &CronSpec, from: u64) -> Option<u64>
 fn first_day_in(spec: &CronSpec, month: &Month, from: u64) -> Option<u64>
     requires from { month.now.first ≤ from }
     requires early { month.now.first < 376200 }
-    ensures first { IsFirst (fires_on spec.now) from (month.now.first + month_length month.now.year month.now.month) result }
+    ensures first { IsFirst (fires_on spec.now) from
+        (month.now.first + month_length month.now.year month.now.month) result }
     ensures soon { IfSome result (λ day. day < 400000) }
 {
     if !has(spec.months, month.month) {

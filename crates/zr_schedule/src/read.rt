@@ -40,7 +40,8 @@ fn first_blank(text: &[u8]) -> Option<usize>
 /// The first word of a text, and what comes after it.
 #[tactic(auto, using(crate::proofs::Parts::word_first, crate::proofs::Parts::word_last, crate::proofs::Parts::word_none, crate::proofs::Parts::place_within))]
 fn next_word(text: &[u8]) -> Option<(&[u8], &[u8])>
-    ensures { MatchOption result (words text.now ≡ []) (λ x. words text.now ≡ x.0.now ∷ words x.1.now) }
+    ensures { MatchOption result (words text.now ≡ [])
+        (λ x. words text.now ≡ x.0.now ∷ words x.1.now) }
 {
     let found = skip_blanks(text);
     if found.is_empty() {
@@ -56,7 +57,9 @@ fn next_word(text: &[u8]) -> Option<(&[u8], &[u8])>
 fn next_field(text: &[u8], field: u8, limits: Limits) -> Result<(u64, &[u8]), CronFault>
     requires { limits.high < 64 }
     ensures good { IfOk result (λ x. IsNextField limits (words text.now) x.0 (words x.1.now)) }
-    ensures bad { IfErr result (λ fault. (more : List LimitsValue) → IsFaultAt (limits ∷ more) (words text.now) field fault) }
+    ensures bad { IfErr result
+        (λ fault. (more : List LimitsValue)
+        → IsFaultAt (limits ∷ more) (words text.now) field fault) }
 {
     let Some((word, rest)) = next_word(text) else {
         return Err(CronFault::BadCron { field, place: 0 });

@@ -96,7 +96,8 @@ pub fn day_fields_match(spec: &CronSpec, day: u64, weekday: u64) -> bool
 pub fn may_match(spec: &CronSpec, length: u64) -> bool
     requires some { 0 < length }
     requires few { length ≤ 31 }
-    ensures { result ≡ false → (day weekday : ℕ) → 1 ≤ day → day ≤ length → weekday ≤ 6 → day_fields_match spec.now day weekday ≡ false }
+    ensures { result ≡ false → (day weekday : ℕ) → 1 ≤ day → day ≤ length → weekday ≤ 6
+        → day_fields_match spec.now day weekday ≡ false }
 {
     joined(
         spec,

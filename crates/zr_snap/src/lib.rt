@@ -31,7 +31,8 @@ fn fitting_paths(
     rows: &[SetRow],
 ) -> Result<Vec<Path>, AllocError>
     ensures { IfOk result (λ paths.
-        paths.items ≡ filter (fits_in (job_at jobs.now job)) (matched (job_at jobs.now job) rows.now)) }
+        paths.items ≡ filter (fits_in (job_at jobs.now job))
+        (matched (job_at jobs.now job) rows.now)) }
 {
     let mut paths = Vec::new(alloc);
     for row in rows {
@@ -45,7 +46,8 @@ fn fitting_paths(
 /// How many of the listed paths that a job's filter matches are too long to work on, or have a target that is.
 fn too_long_count(jobs: &JobSet, job: u32, rows: &[SetRow]) -> usize
     ensures { result ≡ length
-        (filter (λ path. not (fits_in (job_at jobs.now job) path)) (matched (job_at jobs.now job) rows.now)) }
+        (filter (λ path. not (fits_in (job_at jobs.now job) path))
+        (matched (job_at jobs.now job) rows.now)) }
 {
     let mut count = 0;
     for row in rows {
@@ -75,7 +77,8 @@ fn add_replication(
     path: &Path,
 ) -> Result<(), AllocError>
     ensures { OnOk result (units.new.items ≡
-        units.old.items ++ replications (destination_of (job_at jobs.now job)) job moment path.now) }
+        units.old.items ++ replications (destination_of (job_at jobs.now job)) job moment
+        path.now) }
 {
     if jobs.destination(job).is_some() {
         let work = Work::Replicate(path.same()?);
@@ -147,7 +150,8 @@ fn find_units(
         (matched (job_at jobs.now unit.now.job) rows.now))))
         (capped (length (filter (λ path. not (fits_in (job_at jobs.now unit.now.job) path))
         (matched (job_at jobs.now unit.now.job) rows.now))))) }
-    ensures units { IfOk result (λ found. UnitsOf jobs.now unit.now.job unit.now.moment rows.now found.1.items) }
+    ensures units { IfOk result
+        (λ found. UnitsOf jobs.now unit.now.job unit.now.moment rows.now found.1.items) }
 {
     let paths = sorted(fitting_paths(alloc, jobs, unit.job, rows)?)?;
     let units = units_on(alloc, jobs, unit.job, unit.moment, paths.as_slice())?;
@@ -170,11 +174,15 @@ fn list<Z: Zfs>(unit: &mut Guarded<'_, Z>) -> Told
     requires begun { HasJustBegun (sight Z.Zfs unit.old) }
     requires kind { (sight Z.Zfs unit.old).unit.work ≡ work.Scan }
     ensures went { Went (sight Z.Zfs unit.old) (sight Z.Zfs unit.new) }
-    ensures turns { Turns (sight Z.Zfs unit.old).turns (sight Z.Zfs unit.new).turns cmd.Sets result }
+    ensures turns { Turns (sight Z.Zfs unit.old).turns (sight Z.Zfs unit.new).turns cmd.Sets
+        result }
     ensures memory { (sight Z.Zfs unit.new).out_of_memory ≡ is_no_memory result }
-    ensures rose { result ≡ Told.Failed → Rose (sight Z.Zfs unit.old).faults (sight Z.Zfs unit.new).faults }
-    ensures records { (base : Option (List Entry)) → IsRecordOf base (sight Z.Zfs unit.old).history (sight Z.Zfs unit.old).turns →
-        IsRecordAfter base (sight Z.Zfs unit.new).history (sight Z.Zfs unit.old).turns (sight Z.Zfs unit.new).turns cmd.Sets result }
+    ensures rose { result ≡ Told.Failed
+        → Rose (sight Z.Zfs unit.old).faults (sight Z.Zfs unit.new).faults }
+    ensures records { (base : Option (List Entry))
+        → IsRecordOf base (sight Z.Zfs unit.old).history (sight Z.Zfs unit.old).turns →
+        IsRecordAfter base (sight Z.Zfs unit.new).history (sight Z.Zfs unit.old).turns
+        (sight Z.Zfs unit.new).turns cmd.Sets result }
     ensures same_runner { unit.new.runner.ghost_name ≡ unit.old.runner.ghost_name }
 {
     unit.run(Cmd::Sets)
@@ -188,9 +196,11 @@ fn scan_listed<Z: Zfs>(
     requires work { (sight Z.Zfs unit.now).unit.work ≡ work.Scan }
     requires listed { HasTurned [] (sight Z.Zfs unit.now).turns cmd.Sets Told.Done }
     ensures result { IfOk result (λ found.
-        ResultOf (sight Z.Zfs unit.now).jobs (sight Z.Zfs unit.now).unit (sight Z.Zfs unit.now).turns found.0) }
+        ResultOf (sight Z.Zfs unit.now).jobs (sight Z.Zfs unit.now).unit
+        (sight Z.Zfs unit.now).turns found.0) }
     ensures units { IfOk result (λ found.
-        Gives (sight Z.Zfs unit.now).jobs (sight Z.Zfs unit.now).unit (sight Z.Zfs unit.now).turns found.0 found.1.items) }
+        Gives (sight Z.Zfs unit.now).jobs (sight Z.Zfs unit.now).unit (sight Z.Zfs unit.now).turns
+        found.0 found.1.items) }
     ensures no_fault { IfOk result (λ found. is_child_fault found.0 ≡ false) }
     ensures memory { IfOk result (λ found. is_out_of_memory found.0 ≡ false) }
 {
@@ -208,7 +218,8 @@ fn scan_done<Z: Zfs>(alloc: Global, unit: &Guarded<'_, Z>) -> (Outcome, Vec<Unit
     requires at_work { IsAtWork (sight Z.Zfs unit.now) }
     requires listed { HasTurned [] (sight Z.Zfs unit.now).turns cmd.Sets Told.Done }
     ensures ended { HasEnded (sight Z.Zfs unit.now) (sight Z.Zfs unit.now) result.0 }
-    ensures units { Gives (sight Z.Zfs unit.now).jobs (sight Z.Zfs unit.now).unit (sight Z.Zfs unit.now).turns result.0 result.1.items }
+    ensures units { Gives (sight Z.Zfs unit.now).jobs (sight Z.Zfs unit.now).unit
+        (sight Z.Zfs unit.now).turns result.0 result.1.items }
 {
     match scan_listed(alloc, unit) {
         Ok(found) => found,
@@ -222,7 +233,8 @@ pub fn scan<Z: Zfs>(alloc: Global, unit: &mut Guarded<'_, Z>) -> (Outcome, Vec<U
     requires begun { HasJustBegun (sight Z.Zfs unit.old) }
     requires kind { (sight Z.Zfs unit.old).unit.work ≡ work.Scan }
     ensures ended { HasEnded (sight Z.Zfs unit.old) (sight Z.Zfs unit.new) result.0 }
-    ensures units { Gives (sight Z.Zfs unit.old).jobs (sight Z.Zfs unit.old).unit (sight Z.Zfs unit.new).turns result.0 result.1.items }
+    ensures units { Gives (sight Z.Zfs unit.old).jobs (sight Z.Zfs unit.old).unit
+        (sight Z.Zfs unit.new).turns result.0 result.1.items }
     ensures same_runner { unit.new.runner.ghost_name ≡ unit.old.runner.ghost_name }
 {
     match list(unit) {

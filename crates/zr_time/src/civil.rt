@@ -69,7 +69,8 @@ fn datetime_of(civil: &Civil) -> Option<DateTime>
     requires day { DayFits civil.now.day }
     requires clock { ClockFits civil.now.clock }
     ensures exists { IsSome result ↔ IsCivil civil.now }
-    ensures value { IfSome result (λ shown. civil_nanos shown ≡ millis_of civil.now *ℤ pos 1_000_000) }
+    ensures value { IfSome result
+        (λ shown. civil_nanos shown ≡ millis_of civil.now *ℤ pos 1_000_000) }
 {
     let (day, clock) = (civil.day, civil.clock);
     DateTime::new(

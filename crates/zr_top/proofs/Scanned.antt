@@ -38,7 +38,7 @@ pub all-due : (jobs : JobSet) (number moment : ℕ) (rows : List SetRow) (units 
 all-due jobs number moment rows units inside scan = λ k d within.
     let unit = get_or units k d in
     let at = units-all jobs number moment rows units (AtScan number moment) scan
-    (λ path place is fits. record { job_is = refl; moment_is = refl; work_is = tt }) (λ path. record { job_is = refl; moment_is = refl; work_is = tt }) k d within in
+    (λ path place is fits. record { job_is = refl; moment_is = refl; work_is = tt }) (λ path rule rules is taken. record { job_is = refl; moment_is = refl; work_is = tt }) k d within in
     let by_number : ℕ → Type 0 = λ n. UnitsOf jobs n unit.moment rows units in
     let by_moment : ℕ → Type 0 = λ m. UnitsOf jobs number m rows units in
     let below : ℕ → Type 0 = λ n. n < length jobs.jobs in

@@ -34,7 +34,8 @@ pub trait Files {
             content self.old path.now ≡ Some whole → bytes.items ≡ take (limit + 1) whole) }
         ensures content { (other : List ℕ) → content self.new other ≡ content self.old other }
         ensures asked { AsksAtMost (asked self.old) (asked self.new) path.now }
-        ensures failed_rose { result ≡ Err ReadFault.Failed → Rose (faults self.old) (faults self.new) }
+        ensures failed_rose { result ≡ Err ReadFault.Failed
+            → Rose (faults self.old) (faults self.new) }
         ensures failed_path { result ≡ Err ReadFault.Failed → failed self.new ≡ Some path.now }
         ensures later { faults self.old ≤ faults self.new }
         ensures kept_count { result ≢ Err ReadFault.Failed → faults self.new ≡ faults self.old }

@@ -57,10 +57,12 @@ fn scan_all<Z: Zfs>(
     requires { length jobs.now.jobs < 2 ^ 32 }
     ensures units { IfOk result (λ found. All (All (IsDueUnit jobs.now)) found.items) }
     ensures ran { IfOk result (λ found. ScansRan jobs.now moment (length jobs.now.jobs)
-        (Z.history runner.old) (Z.history runner.new) tally.old.totals tally.new.totals found.items) }
+        (Z.history runner.old) (Z.history runner.new) tally.old.totals tally.new.totals
+        found.items) }
     ensures unbegun { IfErr result (λ fault. runner.new ≡ runner.old) }
     ensures later { Z.faults runner.old ≤ Z.faults runner.new }
-    ensures rose { FaultsRose tally.old.totals tally.new.totals (Z.faults runner.old) (Z.faults runner.new) }
+    ensures rose { FaultsRose tally.old.totals tally.new.totals (Z.faults runner.old)
+        (Z.faults runner.new) }
 {
     let mut found = Vec::with_capacity(alloc, jobs.jobs.len())?;
     for job in 0..jobs.jobs.len() as u32 {
@@ -83,7 +85,8 @@ fn run_units<Z: Zfs>(
     ensures ran { Attempted jobs.now units.items (Z.history runner.old) (Z.history runner.new)
         tally.old.totals tally.new.totals }
     ensures later { Z.faults runner.old ≤ Z.faults runner.new }
-    ensures rose { FaultsRose tally.old.totals tally.new.totals (Z.faults runner.old) (Z.faults runner.new) }
+    ensures rose { FaultsRose tally.old.totals tally.new.totals (Z.faults runner.old)
+        (Z.faults runner.new) }
 {
     for unit in units {
         let outcome = run_unit(alloc, jobs, unit, tally.next_run(), runner);
@@ -100,10 +103,12 @@ fn run_all<Z: Zfs>(
     runner: &mut Z,
 )
     requires { All (All (IsDueUnit jobs.now)) found.items }
-    ensures ran { Attempted jobs.now (joined found.items) (Z.history runner.old) (Z.history runner.new)
+    ensures ran { Attempted jobs.now (joined found.items) (Z.history runner.old)
+        (Z.history runner.new)
         tally.old.totals tally.new.totals }
     ensures later { Z.faults runner.old ≤ Z.faults runner.new }
-    ensures rose { FaultsRose tally.old.totals tally.new.totals (Z.faults runner.old) (Z.faults runner.new) }
+    ensures rose { FaultsRose tally.old.totals tally.new.totals (Z.faults runner.old)
+        (Z.faults runner.new) }
 {
     for units in found {
         run_units(alloc, jobs, units.into_vec(), tally, runner);
@@ -120,10 +125,12 @@ pub fn once<Z: Zfs>(
     runner: &mut Z,
 ) -> Result<Totals, NoMemory>
     requires few { length jobs.now.jobs < 2 ^ 32 }
-    ensures ran { IfOk result (λ totals. RanDue jobs.now moment (Z.history runner.old) (Z.history runner.new) totals) }
+    ensures ran { IfOk result
+        (λ totals. RanDue jobs.now moment (Z.history runner.old) (Z.history runner.new) totals) }
     ensures unbegun { IfErr result (λ fault. runner.new ≡ runner.old) }
     ensures later { Z.faults runner.old ≤ Z.faults runner.new }
-    ensures rose { IfOk result (λ totals. 0 < totals.faults → Rose (Z.faults runner.old) (Z.faults runner.new)) }
+    ensures rose { IfOk result
+        (λ totals. 0 < totals.faults → Rose (Z.faults runner.old) (Z.faults runner.new)) }
 {
     let mut tally = Tally::new();
     let Some(moment) = moment else {

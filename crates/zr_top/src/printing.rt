@@ -13,7 +13,8 @@ use zr_pipe::{PutFault, Sink};
 /// Writes some bytes.
 #[tactic(auto, using(crate::proofs::Fronts::front_whole))]
 fn put<S: Sink>(out: &mut S, text: &[u8]) -> Result<(), Status>
-    ensures fault { IfErr result (λ status. (status ≡ Status.Unwritable) ⊎ (status ≡ Status.OutOfMemory)) }
+    ensures fault { IfErr result
+        (λ status. (status ≡ Status.Unwritable) ⊎ (status ≡ Status.OutOfMemory)) }
     ensures cause { result ≡ Err Status.Unwritable → Rose (S.faults out.old) (S.faults out.new) }
     ensures written { OnOk result (S.written out.new ≡ append_known (S.written out.old) text.now) }
     ensures front { WroteFront (S.written out.old) (S.written out.new) text.now }
@@ -53,7 +54,8 @@ pub fn refuse<S: Sink>(out: &mut S, fault: JobFault) -> Status
     ensures cause { result ≡ Status.Unwritable → Rose (S.faults out.old) (S.faults out.new) }
     ensures unrun { is_unrun result ≡ true }
     ensures wrote { Wrote result (S.written out.old) (S.written out.new) (fault_line fault) }
-    ensures front { fault ≢ OutOfMemory → WroteFrontOf (S.written out.old) (S.written out.new) (fault_line fault) }
+    ensures front { fault ≢ OutOfMemory
+        → WroteFrontOf (S.written out.old) (S.written out.new) (fault_line fault) }
     ensures whole { fault ≢ OutOfMemory → WroteAllOrNothing (S.faults out.old) (S.faults out.new)
         (S.written out.old) (S.written out.new) (fault_line fault ++ 10 ∷ []) }
     ensures silent { fault ≡ OutOfMemory → S.written out.new ≡ S.written out.old }

@@ -19,7 +19,8 @@ fn put_field(line: &mut String, name: &str, value: u64) -> Result<(), AllocError
 }
 
 fn put_next(line: &mut String, name: &str, value: u64) -> Result<(), AllocError>
-    ensures { OnOk result (string_bytes line.new ≡ string_bytes line.old ++ 32 ∷ field name.now value) }
+    ensures { OnOk result (string_bytes line.new
+        ≡ string_bytes line.old ++ 32 ∷ field name.now value) }
 {
     line.push(' ')?;
     put_field(line, name, value)
@@ -49,7 +50,8 @@ fn put_steps(line: &mut String, totals: &Totals) -> Result<(), AllocError>
 
 #[tactic(auto, unfolding(crate::specs::Totals::places_text))]
 fn put_places(line: &mut String, totals: &Totals) -> Result<(), AllocError>
-    ensures { OnOk result (string_bytes line.new ≡ string_bytes line.old ++ places_text totals.now) }
+    ensures { OnOk result (string_bytes line.new
+        ≡ string_bytes line.old ++ places_text totals.now) }
 {
     put_field(line, "placeholders", totals.placeholders)?;
     put_next(line, "toolong", totals.toolong)

@@ -27,11 +27,13 @@ pub fn run_scan<Z: Zfs>(
     runner: &mut Z,
 ) -> (Outcome, Vec<Unit>)
     requires { job < length jobs.now.jobs }
-    ensures ran { ScanRan jobs.now (scan_of moment job) run (Z.history runner.old) (Z.history runner.new)
+    ensures ran { ScanRan jobs.now (scan_of moment job) run (Z.history runner.old)
+        (Z.history runner.new)
         result.0 result.1.items }
     ensures units { All (IsDueUnit jobs.now) result.1.items }
     ensures later { Z.faults runner.old ≤ Z.faults runner.new }
-    ensures fault_rose { is_child_fault result.0 ≡ true → Rose (Z.faults runner.old) (Z.faults runner.new) }
+    ensures fault_rose { is_child_fault result.0 ≡ true
+        → Rose (Z.faults runner.old) (Z.faults runner.new) }
 {
     let unit = Unit {
         job,
@@ -82,7 +84,8 @@ pub fn run_unit<Z: Zfs>(
     requires { IsDueUnit jobs.now unit }
     ensures ran { Ran jobs.now unit run (Z.history runner.old) (Z.history runner.new) result }
     ensures later { Z.faults runner.old ≤ Z.faults runner.new }
-    ensures fault_rose { is_child_fault result ≡ true → Rose (Z.faults runner.old) (Z.faults runner.new) }
+    ensures fault_rose { is_child_fault result ≡ true
+        → Rose (Z.faults runner.old) (Z.faults runner.new) }
 {
     match Guarded::begin(alloc, unit, run, jobs, runner) {
         Ok(mut unit) => {

@@ -34,8 +34,10 @@ fn once_with<R: Spawn, C: Clock + Drop>(
     mut clock: C,
 ) -> (Result<Totals, NoMemory>, R)
     requires few { length jobs.now.jobs < 2 ^ 32 }
-    ensures ran { RanOnce jobs.now (C.moments clock) (R.history child) (R.history result.1) result.0 }
-    ensures rose { IfOk result.0 (λ totals. 0 < totals.faults → Rose (R.faults child) (R.faults result.1)) }
+    ensures ran { RanOnce jobs.now (C.moments clock) (R.history child) (R.history result.1)
+        result.0 }
+    ensures rose { IfOk result.0
+        (λ totals. 0 < totals.faults → Rose (R.faults child) (R.faults result.1)) }
 {
     let Ok(program) = String::from_str(alloc, "zfs") else {
         return (Err(NoMemory), child);
@@ -61,7 +63,8 @@ fn once_with_first<R: Spawn + Drop, C: Clock + Drop>(
     ensures first { FirstRan jobs.now (C.moments clock) (map (λ r. R.history r) children.old.items)
         (map (λ r. R.history r) children.new.items) result }
     ensures rose { IfOk result (λ totals. 0 < totals.faults →
-        FirstRose (map (λ r. R.faults r) children.old.items) (map (λ r. R.faults r) children.new.items)) }
+        FirstRose (map (λ r. R.faults r) children.old.items)
+        (map (λ r. R.faults r) children.new.items)) }
     ensures others { drop 1 children.new.items ≡ drop 1 children.old.items }
 {
     let child = children.remove(0);
@@ -85,13 +88,18 @@ fn run_jobs<R: Spawn + Drop, C: Clock + Drop, S: Sink>(
     ensures len { vec_len children.new ≡ vec_len children.old }
     ensures of_run { is_of_run result ≡ true }
     ensures ran { (file : List ℕ) → Unrun file
-        (view (λ r. R.history r) (λ r. R.faults r) children.old.items (S.written out.old) (S.faults out.old))
-        (view (λ r. R.history r) (λ r. R.faults r) children.new.items (S.written out.new) (S.faults out.new)) result
+        (view (λ r. R.history r) (λ r. R.faults r) children.old.items (S.written out.old)
+        (S.faults out.old))
+        (view (λ r. R.history r) (λ r. R.faults r) children.new.items (S.written out.new)
+        (S.faults out.new)) result
         ⊎ RanJobs jobs.now (C.moments clock)
-        (view (λ r. R.history r) (λ r. R.faults r) children.old.items (S.written out.old) (S.faults out.old))
-        (view (λ r. R.history r) (λ r. R.faults r) children.new.items (S.written out.new) (S.faults out.new)) result }
+        (view (λ r. R.history r) (λ r. R.faults r) children.old.items (S.written out.old)
+        (S.faults out.old))
+        (view (λ r. R.history r) (λ r. R.faults r) children.new.items (S.written out.new)
+        (S.faults out.new)) result }
     ensures failed { result ≡ Status.ChildFault →
-        FirstRose (map (λ r. R.faults r) children.old.items) (map (λ r. R.faults r) children.new.items) }
+        FirstRose (map (λ r. R.faults r) children.old.items)
+        (map (λ r. R.faults r) children.new.items) }
     ensures others { drop 1 children.new.items ≡ drop 1 children.old.items }
     ensures unwritable { result ≡ Status.Unwritable → Rose (S.faults out.old) (S.faults out.new) }
 {
@@ -122,13 +130,18 @@ fn run_file<R: Spawn + Drop, C: Clock + Drop, S: Sink>(
     ensures readable { result ≢ Status.Unreadable }
     ensures idle { result ≡ Status.JobFile → children.new.items ≡ children.old.items }
     ensures ran { (file : List ℕ) → Unrun file
-        (view (λ r. R.history r) (λ r. R.faults r) children.old.items (S.written out.old) (S.faults out.old))
-        (view (λ r. R.history r) (λ r. R.faults r) children.new.items (S.written out.new) (S.faults out.new)) result
+        (view (λ r. R.history r) (λ r. R.faults r) children.old.items (S.written out.old)
+        (S.faults out.old))
+        (view (λ r. R.history r) (λ r. R.faults r) children.new.items (S.written out.new)
+        (S.faults out.new)) result
         ⊎ RanBytes bytes.now (C.moments clock)
-        (view (λ r. R.history r) (λ r. R.faults r) children.old.items (S.written out.old) (S.faults out.old))
-        (view (λ r. R.history r) (λ r. R.faults r) children.new.items (S.written out.new) (S.faults out.new)) result }
+        (view (λ r. R.history r) (λ r. R.faults r) children.old.items (S.written out.old)
+        (S.faults out.old))
+        (view (λ r. R.history r) (λ r. R.faults r) children.new.items (S.written out.new)
+        (S.faults out.new)) result }
     ensures failed { result ≡ Status.ChildFault →
-        FirstRose (map (λ r. R.faults r) children.old.items) (map (λ r. R.faults r) children.new.items) }
+        FirstRose (map (λ r. R.faults r) children.old.items)
+        (map (λ r. R.faults r) children.new.items) }
     ensures others { drop 1 children.new.items ≡ drop 1 children.old.items }
     ensures unwritable { result ≡ Status.Unwritable → Rose (S.faults out.old) (S.faults out.new) }
 {
@@ -141,8 +154,10 @@ fn run_file<R: Spawn + Drop, C: Clock + Drop, S: Sink>(
 /// Prints that a file can't be read.
 fn unreadable<S: Sink>(alloc: Global, out: &mut S, file: &str) -> Status
     ensures printed { Printed Status.Unreadable result }
-    ensures wrote { Wrote result (S.written out.old) (S.written out.new) (codes "cannot read " ++ file.now) }
-    ensures front { WroteFrontOf (S.written out.old) (S.written out.new) (codes "cannot read " ++ file.now) }
+    ensures wrote { Wrote result (S.written out.old) (S.written out.new)
+        (codes "cannot read " ++ file.now) }
+    ensures front { WroteFrontOf (S.written out.old) (S.written out.new)
+        (codes "cannot read " ++ file.now) }
     ensures whole { WroteAllOrNothing (S.faults out.old) (S.faults out.new)
         (S.written out.old) (S.written out.new) ((codes "cannot read " ++ file.now) ++ 10 ∷ []) }
     ensures unwritable { result ≡ Status.Unwritable → Rose (S.faults out.old) (S.faults out.new) }
@@ -172,15 +187,19 @@ fn run_named<F: Files, R: Spawn + Drop, C: Clock + Drop, S: Sink>(
         F.content files.old file.now ≡ Some whole →
         RefusalPrinted (take (FILE_LIMIT + 1) whole) (S.written out.old) (S.written out.new) }
     ensures unread_printed { result ≡ Status.Unreadable →
-        S.written out.new ≡ append_known (S.written out.old) (codes "cannot read " ++ file.now ++ 10 ∷ []) }
+        S.written out.new ≡ append_known (S.written out.old)
+        (codes "cannot read " ++ file.now ++ 10 ∷ []) }
     ensures no_usage { result ≢ Status.Usage }
     ensures idle { is_idle result ≡ true → children.new.items ≡ children.old.items }
     ensures ran { RanFile file.now (F.content files.old file.now) (C.moments clock)
-        (view (λ r. R.history r) (λ r. R.faults r) children.old.items (S.written out.old) (S.faults out.old))
-        (view (λ r. R.history r) (λ r. R.faults r) children.new.items (S.written out.new) (S.faults out.new)) result }
+        (view (λ r. R.history r) (λ r. R.faults r) children.old.items (S.written out.old)
+        (S.faults out.old))
+        (view (λ r. R.history r) (λ r. R.faults r) children.new.items (S.written out.new)
+        (S.faults out.new)) result }
     ensures asked { AsksAtMost (F.asked files.old) (F.asked files.new) file.now }
     ensures failed { result ≡ Status.ChildFault →
-        FirstRose (map (λ r. R.faults r) children.old.items) (map (λ r. R.faults r) children.new.items) }
+        FirstRose (map (λ r. R.faults r) children.old.items)
+        (map (λ r. R.faults r) children.new.items) }
     ensures others { drop 1 children.new.items ≡ drop 1 children.old.items }
     ensures unwritable { result ≡ Status.Unwritable → Rose (S.faults out.old) (S.faults out.new) }
     ensures unreadable { result ≡ Status.Unreadable →
@@ -216,13 +235,18 @@ where
     requires few { vec_len children.old ≤ 16 }
     ensures runners { vec_len children.new ≡ vec_len children.old }
     ensures others { drop 1 children.new.items ≡ drop 1 children.old.items }
-    ensures unrun { file_of (map string_bytes words.now) ≡ None → children.new.items ≡ children.old.items }
-    ensures idle { (result ≡ 2) ⊎ (result ≡ 3) ⊎ (result ≡ 7) → children.new.items ≡ children.old.items }
-    ensures kept { Promises (given (map string_bytes words.now) (F.content files.old) (C.moments clock)
+    ensures unrun { file_of (map string_bytes words.now) ≡ None
+        → children.new.items ≡ children.old.items }
+    ensures idle { (result ≡ 2) ⊎ (result ≡ 3) ⊎ (result ≡ 7)
+        → children.new.items ≡ children.old.items }
+    ensures kept { Promises (given (map string_bytes words.now) (F.content files.old)
+        (C.moments clock)
         (edges (F.faults files.old) (F.failed files.old) (F.asked files.old)
-        (view (λ r. R.history r) (λ r. R.faults r) children.old.items (S.written out.old) (S.faults out.old)))
+        (view (λ r. R.history r) (λ r. R.faults r) children.old.items (S.written out.old)
+        (S.faults out.old)))
         (edges (F.faults files.new) (F.failed files.new) (F.asked files.new)
-        (view (λ r. R.history r) (λ r. R.faults r) children.new.items (S.written out.new) (S.faults out.new))) result) }
+        (view (λ r. R.history r) (λ r. R.faults r) children.new.items (S.written out.new)
+        (S.faults out.new))) result) }
 {
     match once_file(words) {
         Some(file) => run_named(alloc, file, files, children, clock, out).code(),

@@ -22,7 +22,8 @@ pub fn act(
     ensures shape { IsWellFormed pools.old → IsReplyTo cmd.now result }
     ensures legible { is_garbled result ≡ false }
     ensures planned { is_some plan ≡ true → result ≡ Answer.Failed }
-    ensures refused { plan ≡ None → result ≡ Answer.Failed → is_some (refusal pools.old cmd.now) ≡ true }
+    ensures refused { plan ≡ None → result ≡ Answer.Failed
+        → is_some (refusal pools.old cmd.now) ≡ true }
 {
     match plan {
         Some(extent) => fail(alloc, pools, faults, cmd, extent),

@@ -59,7 +59,8 @@ fn set_place(sets: &[Dataset], set: &Dataset) -> usize
 /// Puts a version into its place in the order of versions.
 #[tactic(auto, using(crate::proofs::Changing::put_in_insert))]
 fn insert_version(versions: &mut Vec<Version>, version: Version) -> Result<(), NoMemory>
-    ensures ok { OnOk result (versions.new.items ≡ put_in version_before version versions.old.items) }
+    ensures ok { OnOk result
+        (versions.new.items ≡ put_in version_before version versions.old.items) }
     ensures err { OnErr result (versions.new.items ≡ versions.old.items) }
 {
     let place = version_place(versions.as_slice(), &version);
@@ -88,7 +89,8 @@ fn retain_others(versions: &mut Vec<Version>, name: &VersionName)
 /// Gives the snapshot of this name other tags.
 fn replace_tags(versions: &mut [Version], name: &SnapName, tags: Rows<Tag>)
     ensures { versions.new ≡
-        first_changed (has_name (Snap name.now)) (λ version. record version { tags = tags }) versions.old }
+        first_changed (has_name (Snap name.now)) (λ version. record version { tags = tags })
+        versions.old }
 {
     let Some(place) = snap_place(versions, name) else {
         return;
@@ -134,7 +136,8 @@ fn add_in(
     path: &Path,
     version: Version,
 ) -> Result<(), NoMemory>
-    ensures ok { OnOk result (sets.new ≡ first_changed (is_at path.now) (with_version version) sets.old) }
+    ensures ok { OnOk result
+        (sets.new ≡ first_changed (is_at path.now) (with_version version) sets.old) }
     ensures err { OnErr result (sets.new ≡ sets.old) }
 {
     let Some(place) = place_of(sets, path) else {
@@ -226,7 +229,8 @@ pub(crate) fn set_partial(alloc: Global, pools: &mut Pools, path: &Path, partial
 
 /// Makes a dataset.
 pub(crate) fn make_set(alloc: Global, pools: &mut Pools, set: Dataset) -> Result<(), NoMemory>
-    ensures ok { OnOk result (pools.new ≡ record pools.old { sets = put_in set_before set pools.old.sets }) }
+    ensures ok { OnOk result
+        (pools.new ≡ record pools.old { sets = put_in set_before set pools.old.sets }) }
     ensures err { OnErr result (pools.new ≡ pools.old) }
 {
     let mut sets = mem::replace(&mut pools.sets, Rows::new(alloc)).into_vec();

@@ -89,7 +89,8 @@ fn version_rows(alloc: Global, versions: &[Version]) -> Result<Rows<VersionRow>,
 
 /// The versions of the dataset at this path.
 fn versions_at<'a>(pools: &'a Pools, path: &Path) -> &'a [Version]
-    ensures { result.now ≡ option_map_or (λ set. set.versions) (dataset_at pools.entry.now path.now) [] }
+    ensures { result.now ≡ option_map_or (λ set. set.versions) (dataset_at pools.entry.now path.now)
+        [] }
 {
     match pools.dataset(path) {
         Some(set) => set.versions.as_slice(),
@@ -244,7 +245,8 @@ fn arriving(alloc: Global, pools: &Pools, transfer: &Transfer) -> Result<Option<
 /// Does a whole transfer, if its source is there.
 fn transfer(alloc: Global, pools: &mut Pools, transfer: &Transfer) -> Result<(), NoMemory>
     requires unspent { is_spent pools.old ≡ false }
-    ensures ok { OnOk result (pools.new ≡ after_since pools.old pools.old (cmd.Transfer transfer.now)) }
+    ensures ok { OnOk result
+        (pools.new ≡ after_since pools.old pools.old (cmd.Transfer transfer.now)) }
     ensures err { OnErr result (pools.new ≡ pools.old) }
 {
     let Some(version) = arriving(alloc, pools, transfer)? else {

@@ -14,5 +14,6 @@ pub fn effects_come_at_one_moment()
         Effect before command some after → EffectSince [] before command some after }
     ensures refused { (before after : Pools) (command : Cmd) (some : Extent) (why : Refusal) →
         refusal before command ≡ Some why → Effect before command some after → after ≡ before }
-    ensures none { (before after : Pools) (command : Cmd) → Effect before command None after → after ≡ before }
+    ensures none { (before after : Pools) (command : Cmd) → Effect before command None after
+        → after ≡ before }
 {}

@@ -55,7 +55,8 @@ fn is_spent(pools: &Pools) -> bool
 
 /// Why a sending end refuses.
 fn source_refusal(pools: &Pools, transfer: &Transfer) -> Option<Refusal>
-    ensures { result ≡ first_that_applies (source_reasons pools.entry.now (cmd.Transfer transfer.now)) }
+    ensures { result ≡ first_that_applies
+        (source_reasons pools.entry.now (cmd.Transfer transfer.now)) }
 {
     if !has_guid(pools.snap(&transfer.source, &transfer.to), transfer.guid) {
         return Some(Refusal::NoSuch);
@@ -91,7 +92,8 @@ fn first_refusal(pools: &Pools, transfer: &Transfer) -> Option<Refusal>
 
 /// Why a full receive onto a dataset is refused.
 fn forced_refusal(pools: &Pools, transfer: &Transfer, set: &Dataset) -> Option<Refusal>
-    ensures { result ≡ first_that_applies (full_reasons pools.entry.now transfer.now (Some set.now)) }
+    ensures { result ≡ first_that_applies
+        (full_reasons pools.entry.now transfer.now (Some set.now)) }
 {
     if set.partial.is_some() {
         return Some(Refusal::HasPartial);
@@ -153,7 +155,8 @@ fn unless_snap(
     why: Refusal,
 ) -> Option<Refusal>
     ensures { result ≡ first_that_applies
-        ((is_none (version_at pools.entry.now path.now (Snap name.now)), NoSuch) ∷ (applies, why) ∷ []) }
+        ((is_none (version_at pools.entry.now path.now (Snap name.now)), NoSuch) ∷ (applies, why)
+        ∷ []) }
 {
     if pools.snap(path, name).is_none() {
         return Some(Refusal::NoSuch);

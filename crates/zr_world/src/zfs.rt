@@ -23,7 +23,8 @@ pub trait Zfs {
     fn begin(&mut self, unit: &Unit, run: u64) -> Result<(), NoMemory>
         ensures faults { faults self.new ≡ faults self.old }
         ensures pools { pools self.new ≡ pools self.old }
-        ensures ok { OnOk result (history self.new ≡ appended (history self.old) (Begin unit.now run ∷ [])) }
+        ensures ok { OnOk result
+            (history self.new ≡ appended (history self.old) (Begin unit.now run ∷ [])) }
         ensures err { OnErr result (history self.new ≡ history self.old) };
 
     fn run(&mut self, cmd: &Cmd) -> Answer

@@ -96,7 +96,8 @@ fn items_step(
     slot: Option<Node>,
     piece: Piece,
 ) -> Result<Step, Stop>
-    ensures { Gives step_view result (items_step (map tree done.items) (option_map tree slot) piece) }
+    ensures { Gives step_view result
+        (items_step (map tree done.items) (option_map tree slot) piece) }
 {
     match slot {
         Some(node) => after_item(with_node(done, node)?, piece),
@@ -167,7 +168,8 @@ impl Frame {
 
     /// What a piece does to it.
     pub(crate) fn piece(self, alloc: Global, slot: Option<Node>, piece: Piece) -> Result<Step, Stop>
-        ensures { Gives step_view result (piece_step (frame_view self) (option_map tree slot) piece) }
+        ensures { Gives step_view result
+            (piece_step (frame_view self) (option_map tree slot) piece) }
     {
         match self {
             Frame::Items(done) => items_step(alloc, done, slot, piece),

@@ -29,7 +29,8 @@ pub(crate) struct Reader {
 
 /// The frames, and one more inside.
 fn with_frame(frames: Vec<Frame>, frame: Frame) -> Result<Vec<Frame>, Stop>
-    ensures { GivesAll (λ v. frames_view v.items) result (frame_view frame ∷ frames_view frames.items) }
+    ensures { GivesAll (λ v. frames_view v.items) result
+        (frame_view frame ∷ frames_view frames.items) }
 {
     let mut frames = frames;
     frames.push(frame)?;
@@ -115,7 +116,8 @@ fn begun(frames: Vec<Frame>, slot: Option<Node>, may: bool, frame: Frame) -> Res
 }
 
 fn next_dash(frames: Vec<Frame>, slot: Option<Node>) -> Result<Reader, Stop>
-    ensures { Gives reader_view result (next_dash (frames_view frames.items) (option_map tree slot)) }
+    ensures { Gives reader_view result
+        (next_dash (frames_view frames.items) (option_map tree slot)) }
 {
     let Some((frame, outside)) = without_frame(frames) else {
         return Err(Stop::Bad);
@@ -133,7 +135,8 @@ fn next_dash(frames: Vec<Frame>, slot: Option<Node>) -> Result<Reader, Stop>
 }
 
 fn next_key(frames: Vec<Frame>, slot: Option<Node>, key: Bytes) -> Result<Reader, Stop>
-    ensures { Gives reader_view result (next_key key (frames_view frames.items) (option_map tree slot)) }
+    ensures { Gives reader_view result
+        (next_key key (frames_view frames.items) (option_map tree slot)) }
 {
     let Some((frame, outside)) = without_frame(frames) else {
         return Err(Stop::Bad);
@@ -190,7 +193,8 @@ fn lone(
 
 /// What a step does to the frames outside.
 fn stepped(frames: Vec<Frame>, step: Step) -> Result<Reader, Stop>
-    ensures { Gives reader_view result (stepped (frames_view frames.items) (Some (step_view step))) }
+    ensures { Gives reader_view result
+        (stepped (frames_view frames.items) (Some (step_view step))) }
 {
     match step {
         Step::Stay(frame, slot) => Ok(Reader {

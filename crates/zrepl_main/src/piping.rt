@@ -42,7 +42,8 @@ where
 /// The end of a pipe by the ends of its two children.
 fn joined(sent: RunExit, received: RunExit) -> PipeExit
     ensures done { (result ≡ PipeExit.Done) ↔ (sent ≡ RunExit.Done) × (received ≡ RunExit.Done) }
-    ensures memory { sent ≢ RunExit.NoMemory → received ≢ RunExit.NoMemory → result ≢ PipeExit.NoMemory }
+    ensures memory { sent ≢ RunExit.NoMemory → received ≢ RunExit.NoMemory
+        → result ≢ PipeExit.NoMemory }
 {
     match (sent, received) {
         (RunExit::Done, RunExit::Done) => PipeExit::Done,
