@@ -4,6 +4,7 @@
 mod known;
 mod permit;
 mod plan;
+mod replication;
 
 use std::process::Abort;
 use tests_pools::difference;

@@ -47,16 +47,16 @@ garbled-tells pair (cmd.DestroySnap path name) line known = refl
 garbled-tells pair (cmd.DestroyMark path name) line known = refl
 garbled-tells pair (cmd.Transfer transfer) line known = refl
 
-pub short-tells : (pair : Pair) (command : Cmd) (known : Known) → told_by pair command answer.NoMemory known ≡ known
-short-tells pair cmd.Sets known = refl
-short-tells pair (cmd.Versions path) known = refl
-short-tells pair (cmd.Holds path name) known = refl
-short-tells pair (cmd.Hold kind job path name) known = refl
-short-tells pair (cmd.Release kind job path name) known = refl
-short-tells pair (cmd.Bookmark path version name) known = refl
-short-tells pair (cmd.DestroySnap path name) known = refl
-short-tells pair (cmd.DestroyMark path name) known = refl
-short-tells pair (cmd.Transfer transfer) known = refl
+pub no-memory-tells : (pair : Pair) (command : Cmd) (known : Known) → told_by pair command answer.NoMemory known ≡ known
+no-memory-tells pair cmd.Sets known = refl
+no-memory-tells pair (cmd.Versions path) known = refl
+no-memory-tells pair (cmd.Holds path name) known = refl
+no-memory-tells pair (cmd.Hold kind job path name) known = refl
+no-memory-tells pair (cmd.Release kind job path name) known = refl
+no-memory-tells pair (cmd.Bookmark path version name) known = refl
+no-memory-tells pair (cmd.DestroySnap path name) known = refl
+no-memory-tells pair (cmd.DestroyMark path name) known = refl
+no-memory-tells pair (cmd.Transfer transfer) known = refl
 
 pub destroy-tells : (pair : Pair) (path name : List ℕ) (given : Answer) (known : Known) → told_by pair (cmd.DestroySnap path name) given known ≡ known
 destroy-tells pair path name (answer.Done reply.Nothing) known = refl

@@ -27,7 +27,7 @@ pub fn what_was_not_done_tells_nothing()
         told_by pair command answer.Failed known ≡ known }
     ensures garbled { (pair : Pair) (command : Cmd) (line : ℕ) (known : Known) →
         told_by pair command (answer.Garbled line) known ≡ known }
-    ensures short { (pair : Pair) (command : Cmd) (known : Known) →
+    ensures no_memory { (pair : Pair) (command : Cmd) (known : Known) →
         told_by pair command answer.NoMemory known ≡ known }
     ensures destroy { (pair : Pair) (path name : List ℕ) (given : Answer) (known : Known) →
         told_by pair (cmd.DestroySnap path name) given known ≡ known }

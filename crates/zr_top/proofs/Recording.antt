@@ -154,8 +154,8 @@ no-line totals before now nothing = record {
 }
 
 -- nothing was run, and nothing was printed, for want of memory
-pub idle-short : (file : List ℕ) (before now : View) → now.records ≡ before.records → now.written ≡ before.written → Unrun file before now status.OutOfMemory
-idle-short file before now same silent =
+pub idle-no-memory : (file : List ℕ) (before now : View) → now.records ≡ before.records → now.written ≡ before.written → Unrun file before now status.OutOfMemory
+idle-no-memory file before now same silent =
     let line = codes "cannot read " ++ file in
     record {
       same = same;

@@ -63,7 +63,7 @@ pub record RanNext (jobs : JobSet) (moments : Option (List ℕ)) (before now : T
 
 -- `once` was called with a runner, or for want of memory nothing was begun
 abbrev pub RanOnce : JobSet → Option (List ℕ) → Told → Told → Result Totals NoMemory → Type 0
-RanOnce jobs moments before now (Err short) = now ≡ before
+RanOnce jobs moments before now (Err fault) = now ≡ before
 RanOnce jobs moments before now (Ok totals) = RanNext jobs moments before now totals
 
 -- the same, of the first of some runners
@@ -72,7 +72,7 @@ FirstNext jobs moments (before ∷ others) (now ∷ left) totals = RanNext jobs 
 FirstNext jobs moments before now totals = ⊥
 
 abbrev pub FirstRan : JobSet → Option (List ℕ) → List Told → List Told → Result Totals NoMemory → Type 0
-FirstRan jobs moments before now (Err short) = now ≡ before
+FirstRan jobs moments before now (Err fault) = now ≡ before
 FirstRan jobs moments before now (Ok totals) = FirstNext jobs moments before now totals
 
 -- the count of faults of the first of some runners rose

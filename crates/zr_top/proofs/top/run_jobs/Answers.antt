@@ -1,5 +1,5 @@
 use Rattle.std.proofs.Common.{◌∙◌, inl, inr, refl}
-use Rattle.zr_top.proofs.Recording.{idle-short, line-printed, no-line, ran-jobs}
+use Rattle.zr_top.proofs.Recording.{idle-no-memory, line-printed, no-line, ran-jobs}
 use Rattle.zr_top.proofs.top.run_jobs.Goals as goal
 
 pub returns-in-Ok-totals_line-clause-ran : goal.returns-in-Ok-totals_line-clause-ran
@@ -12,4 +12,4 @@ returns-in-Err-clause-ran g c = λ file.
     inr (ran-jobs c.args.jobs.now _ _ _ c.in-Ok.totals _ c.in-Ok.ensures.first c.in-Ok.ensures.rose (no-line c.in-Ok.totals _ _ refl))
 
 pub returns-in_default-clause-ran : goal.returns-in_default-clause-ran
-returns-in_default-clause-ran g c = λ file. inl (idle-short file _ _ c.in_default.ensures.first refl)
+returns-in_default-clause-ran g c = λ file. inl (idle-no-memory file _ _ c.in_default.ensures.first refl)

@@ -2,7 +2,7 @@ use Rattle.std.proofs.Common.{◌∙◌, ℕ, List, inl, refl, subst, sym}
 use Rattle.zr_top.specs.Records.{RefusalPrinted}
 use Rattle.zr_top.specs.Status.{IsRefused}
 use Rattle.zr_top.proofs.Refusing.{unread, unread-not-refused}
-use Rattle.zr_top.proofs.Recording.{idle-short, ran-file, unread-unrun}
+use Rattle.zr_top.proofs.Recording.{idle-no-memory, ran-file, unread-unrun}
 use Rattle.zr_top.proofs.top.run_named.Goals as goal
 
 pub returns-in-Ok-clause-refusal_printed : goal.returns-in-Ok-clause-refusal_printed
@@ -40,4 +40,4 @@ pub returns-in-Err-Failed-clause-ran : goal.returns-in-Err-Failed-clause-ran
 returns-in-Err-Failed-clause-ran g c = inl (unread-unrun _ _ _ _ refl c.unreadable.ensures.printed c.unreadable.ensures.front c.unreadable.ensures.whole)
 
 pub returns-clause-ran : goal.returns-clause-ran
-returns-clause-ran g c = inl (idle-short c.args.file.now _ _ refl refl)
+returns-clause-ran g c = inl (idle-no-memory c.args.file.now _ _ refl refl)
