@@ -1,3 +1,5 @@
+//! A byte text that contracts see as a list of numbers.
+
 ghost use Rattle.std.specs.Prelude.{◌≡◌, IfOk};
 
 use std::alloc::{AllocError, Global};

@@ -1,3 +1,5 @@
+//! Want of memory as a fault of its own.
+
 use std::alloc::{AllocError, AllocFailed};
 
 /// Memory was refused.

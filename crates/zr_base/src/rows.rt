@@ -1,3 +1,5 @@
+//! A list that contracts see as a list, for the fields of data.
+
 ghost use Rattle.std.specs.Prelude.{◌≡◌, ◌==◌, [], ◌∷◌, ◌++◌, length, IfOk, OnOk, OnErr};
 
 use crate::same::Same;

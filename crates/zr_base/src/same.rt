@@ -1,3 +1,5 @@
+//! A copy that is equal to its original, or want of memory.
+
 ghost use Rattle.std.specs.Prelude.{◌≡◌, IfOk};
 
 use std::alloc::AllocError;

@@ -1,3 +1,6 @@
+//! One entry of a filter, and how it ranks among those that match a path. Apart from `filter`,
+//! which asks all entries.
+
 ghost use Rattle.std.specs.Prelude.{◌≡◌};
 ghost use Rattle.zr_filter.specs.Rule.{allows_within, covers, is_exact, is_within, lies_below, root_length, subtree_rank};
 

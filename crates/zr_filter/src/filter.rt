@@ -1,3 +1,5 @@
+//! Whether a filter matches a path, and whether it reaches a root.
+
 ghost use Rattle.std.specs.Prelude.{◌≡◌, false};
 ghost use Rattle.std.specs.List.{list_any};
 ghost use Rattle.zr_filter.specs.Rule.{MatchesNothingWithin, allows, allows_within, counting, matches, rank_among, reaches};

@@ -1,3 +1,5 @@
+//! Reads the text of an entry, as a job file has it.
+
 ghost use Rattle.std.specs.Prelude.{◌≡◌};
 ghost use Rattle.zr_filter.specs.Patterns.{ReadsPattern, ends_in_mark, stem};
 

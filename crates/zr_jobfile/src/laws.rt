@@ -1,3 +1,5 @@
+//! The limit of a job file, as a law.
+
 ghost use Rattle.std.specs.Prelude.{◌≡◌};
 ghost use Rattle.zr_jobfile.specs.declared.TheConstants.{FILE_LIMIT};
 

@@ -46,7 +46,7 @@ module _ (jobs : JobSet) (number moment : ℕ) (path : List ℕ) where
       let match = left (matches_in job path) (fits_in job path) taken in
       let fit = right (matches_in job path) (fits_in job path) taken in
       let listed : filter (fits_in job) (matched job (row path ∷ [])) ≡ path ∷ [] =
-          ap (filter (fits_in job)) (one-passes (matches_in job) path match) ∙ one-passes (fits_in job) path fit in
+      ap (filter (fits_in job)) (one-passes (matches_in job) path match) ∙ one-passes (fits_in job) path fit in
       record {
         paths = path ∷ [];
         listed = subst (λ paths. IsPermutation paths (path ∷ [])) (sym listed) (IsPermutation-refl (path ∷ []));
@@ -125,10 +125,13 @@ within jobs number (Some job) is e = slice_get_within jobs.jobs number job is
 
 -- a unit of a job that is there is one of the job file exactly where a scan gives its work
 pub unit-decided : (jobs : JobSet) (unit : Unit) → is_some (job_at jobs unit.job) ≡ true → Decides (gives (job_at jobs unit.job) unit.work) (IsOfFile jobs unit)
-unit-decided jobs unit there = (λ e. record {
-  in_file = within jobs unit.job (job_at jobs unit.job) refl there;
-  work_is = scanned-by jobs unit unit.work refl e;
-}, λ of. given-by jobs unit unit.work refl of.work_is)
+unit-decided jobs unit there = (
+  λ e. record {
+    in_file = within jobs unit.job (job_at jobs unit.job) refl there;
+    work_is = scanned-by jobs unit unit.work refl e;
+  },
+  λ of. given-by jobs unit unit.work refl of.work_is,
+)
 
 -- and no unit of another job is
 pub unit-of-none : (jobs : JobSet) (unit : Unit) → is_some (job_at jobs unit.job) ≡ false → IsOfFile jobs unit → ⊥

@@ -1,3 +1,5 @@
+//! The name by which a sink knows a client.
+
 ghost use Rattle.std.specs.Prelude.{◌≡◌};
 ghost use Rattle.zr_jobs.specs.Identities.{ReadsIdentity, is_dot_name};
 

@@ -1,3 +1,6 @@
+//! A job and the jobs of a file: what each matches, keeps and replicates, and which units are
+//! theirs.
+
 ghost use Rattle.std.specs.Prelude.{◌≡◌, IfErr, IfOk, true};
 ghost use Rattle.std.specs.Option.{option_copied};
 ghost use Rattle.zr_jobs.specs.declared.target.TargetFault.TheVariants as target_fault;

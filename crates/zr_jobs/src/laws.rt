@@ -1,3 +1,5 @@
+//! What holds of targets and limits, for those who keep jobs apart.
+
 ghost use Rattle.zr_jobs.specs.declared.target.TheConstants.{LONGEST_PATH};
 ghost use Rattle.std.specs.Prelude.{◌≡◌, ◌≢◌, List, ℕ};
 ghost use Rattle.zr_jobs.specs.Targets.{AreApart, HasIdentity, IsBelow, root_of, target_text};

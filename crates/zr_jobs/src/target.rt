@@ -1,3 +1,6 @@
+//! Where a source is replicated to: the path of its target. Apart from `job`, since it knows no
+//! job.
+
 ghost use Rattle.std.specs.Prelude.{◌≡◌, IfOk, length};
 ghost use Rattle.zr_jobs.specs.Targets.{HasIdentity, IsTarget, joined, root_of, target_text};
 ghost use Rattle.zr_names.specs.Names.{IsName, path_is_bad};

@@ -1,3 +1,5 @@
+//! How many units of a job and of all jobs may be out at one time.
+
 ghost use Rattle.std.specs.Prelude.{◌≡◌, IfOk, slice_index};
 
 use std::alloc::{AllocError, Global};

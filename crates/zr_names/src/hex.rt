@@ -1,3 +1,5 @@
+//! Numbers of sixteen hexadecimal digits, both ways, as guids stand in names.
+
 ghost use Rattle.std.specs.Prelude.{◌≡◌, ◌≢◌, ◌<◌, ◌≤◌, ◌++◌, ℕ, length, OnOk, MatchOption};
 ghost use Rattle.zr_names.specs.Hex.{hex_digit, hex_text};
 

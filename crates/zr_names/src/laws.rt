@@ -1,3 +1,5 @@
+//! What holds of names, marks and limits, for those who spell them.
+
 ghost use Rattle.zr_names.specs.declared.names.TheConstants.{JOB_LIMIT, NAME_LIMIT, PATH_LIMIT, TOKEN_LIMIT};
 ghost use Rattle.std.specs.Prelude.{◌≡◌, ◌≢◌, ◌<◌, ◌^◌, List, ℕ};
 ghost use Rattle.zr_names.specs.Marks.{cursor_text, HasGuid, IsMark, mark_kind, old_cursor_text, tag_text, tentative_text};

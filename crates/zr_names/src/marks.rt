@@ -1,3 +1,5 @@
+//! The tags and bookmarks that a job puts on a dataset, spelled and told apart.
+
 ghost use Rattle.std.specs.Prelude.{◌≡◌, ◌≢◌, ◌↔◌, ◌++◌, ℕ, List, codes, IfOk, IsTrue, MatchOption};
 ghost use Rattle.zr_names.specs.Marks.{cursor_text, guid_and_job, HasGuid, IsMark, mark_kind, tag_front, tag_text, tentative_text};
 

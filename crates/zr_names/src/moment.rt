@@ -1,3 +1,5 @@
+//! A moment: a count of milliseconds since 1970, before the year 3000.
+
 ghost use Rattle.std.specs.Prelude.{◌≡◌, ◌<◌, ◌↔◌, IsSome, IfSome};
 
 use std::marker::Model;

@@ -1,3 +1,5 @@
+//! The names of ZFS and of jobs: one type for each, which only its reader makes.
+
 use std::marker::Model;
 use zr_base::Bytes;
 

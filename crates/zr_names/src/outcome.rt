@@ -1,3 +1,5 @@
+//! How a unit of work ended.
+
 /// How a unit of work ended. A number stays at `u32::MAX` once there.
 #[derive(Clone, Copy, PartialEq, Eq)]
 pub enum Outcome {

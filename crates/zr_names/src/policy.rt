@@ -1,3 +1,5 @@
+//! The policies of a replication, as a job file names them.
+
 /// Which snapshots a replication sends first where the target has none.
 #[derive(Clone, Copy, PartialEq, Eq)]
 pub enum Initial {

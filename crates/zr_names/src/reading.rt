@@ -1,3 +1,5 @@
+//! Finds the first bad byte of a name. Apart from `names`, which says what is bad in each.
+
 ghost use Rattle.std.specs.Prelude.{◌≡◌, ◌<◌, length, slice_index};
 ghost use Rattle.zr_names.specs.Names.{begins_component, ends_component, is_dots, is_name_byte, name_is_bad, path_is_bad, Reads, slash_is_bad, tag_is_bad, token_is_bad};
 

@@ -1,3 +1,5 @@
+//! The sums over outcomes that the totals line prints.
+
 ghost use Rattle.std.specs.Prelude.{◌≡◌};
 ghost use Rattle.zr_names.specs.Totals.{counted, summed};
 

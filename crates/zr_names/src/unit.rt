@@ -1,3 +1,5 @@
+//! A unit of work: what is done, on which dataset, of which job and when.
+
 ghost use Rattle.std.specs.Prelude.{◌≡◌, IfOk};
 
 use crate::moment::Moment;

@@ -1,3 +1,5 @@
+//! A unit at work: the one way to give a command, which asks the permission rule first.
+
 use crate::log::Log;
 use crate::told::Told;
 use std::alloc::Global;

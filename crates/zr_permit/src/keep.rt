@@ -1,3 +1,5 @@
+//! Which snapshots of a listing the rules of a job doom.
+
 ghost use Rattle.std.specs.Prelude.{◌≡◌, ◌<◌, IfOk, OnOk, OnErr, ◌++◌};
 ghost use Rattle.zr_permit.specs.Keep.{doomed, going, going_from, is_as_old, is_newer, keeps, newer_count, retained};
 

@@ -1,3 +1,5 @@
+//! What holds of transcripts, for those who read a record.
+
 ghost use Rattle.std.specs.Prelude.{◌≡◌};
 ghost use Rattle.zr_names.specs.declared.unit.Unit.{Unit};
 ghost use Rattle.zr_jobs.specs.declared.job.JobSet.{JobSet};

@@ -1,3 +1,5 @@
+//! What a unit gave and what was answered. Its type keeps that all of it was allowed.
+
 use std::alloc::{AllocError, Global};
 use std::marker::Model;
 use zr_command::{Answer, Cmd};

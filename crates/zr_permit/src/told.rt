@@ -1,3 +1,5 @@
+//! How a command was answered, without its rows: what a unit branches on.
+
 use zr_command::Answer;
 
 /// What a unit is told of a command.

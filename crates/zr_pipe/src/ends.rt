@@ -1,3 +1,5 @@
+//! What bytes are taken from and brought to. Traits of our own, since each counts its faults.
+
 ghost use Rattle.std.specs.Prelude.{◌≡◌, ℕ, ◌<◌, ◌≤◌, List, Option, length, take, OnOk, OnErr, IfOk};
 ghost use Rattle.std.specs.Io.KnownBytes.{append_known, prepend_known};
 ghost use Rattle.zr_pipe.specs.Faults.{Rose};

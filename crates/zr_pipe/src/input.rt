@@ -1,3 +1,5 @@
+//! A source over any `Read`.
+
 ghost use Rattle.std.specs.Prelude.{None};
 
 use crate::ends::{Failed, Source};

@@ -1,3 +1,5 @@
+//! A sink in memory, which can fail or run out of room.
+
 ghost use Rattle.std.specs.Prelude.{◌≡◌, ◌≢◌, ◌<◌, ◌≤◌, ◌↔◌, [], ◌++◌, Some, OnOk, OnErr, Contains};
 ghost use Rattle.zr_pipe.specs.Faults.{raised, Rose};
 ghost use Rattle.zr_pipe.specs.Ends.{WroteFront};

@@ -1,3 +1,5 @@
+//! A source in memory, which can fail.
+
 ghost use Rattle.std.specs.Prelude.{◌≡◌, ◌<◌, ◌≤◌, ◌↔◌, ◌++◌, Some, min, length, take, drop, IsErr, OnOk, OnErr, IfOk, Contains};
 ghost use Rattle.zr_pipe.specs.Faults.{raised};
 ghost use Rattle.zr_pipe.specs.Ends.{IsNoneAtEnd};

@@ -1,3 +1,5 @@
+//! A sink over any `Write`.
+
 ghost use Rattle.std.specs.Prelude.{None};
 
 use crate::ends::{PutFault, Sink};

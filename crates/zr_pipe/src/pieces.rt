@@ -1,3 +1,5 @@
+//! The relay: brings what a source gives to a sink, a piece at a time.
+
 ghost use Rattle.std.specs.Prelude.{◌≡◌, ℕ, ◌+◌, ◌<◌, ◌≤◌, false, List, Option, length, OnOk, IfOk, IfErr};
 ghost use Rattle.zr_pipe.specs.Relay.{CountsFault, Carried, Relayed, Stopped, is_read_fault, is_write_fault, piece_max, relay_max};
 

@@ -1,3 +1,6 @@
+//! Reads a source up to a limit, as a file or a listing is read. Apart from the relay, which keeps
+//! nothing.
+
 ghost use Rattle.std.specs.Prelude.{◌≡◌, ◌≢◌, ◌≤◌, IfOk, Some, length, vec_len};
 
 use crate::pieces::PIECE;

@@ -1,3 +1,5 @@
+//! What holds of plans, for those who stand on them.
+
 ghost use Rattle.std.specs.List.{list_any};
 ghost use Rattle.std.specs.Prelude.{◌≡◌, List, None, Some, ℕ, false, is_some, true};
 ghost use Rattle.zr_names.specs.declared.policy.Initial.{Initial};

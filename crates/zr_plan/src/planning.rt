@@ -1,3 +1,5 @@
+//! What a replication does next: the cases, in their order.
+
 ghost use Rattle.std.specs.Prelude.{◌≡◌, ◌++◌, ◌&&◌, IfOk, OnOk, filter, find, is_some, nat_lt, option_to_list, option_map};
 ghost use Rattle.std.specs.Option.{option_copied};
 ghost use Rattle.zr_command.specs.declared.version.VersionRow.{VersionRow};

@@ -1,3 +1,5 @@
+//! The source's side of a plan: its snapshots, and the versions that a send can start from.
+
 use zr_command::VersionRow;
 
 /// The source as a plan reads it: the snapshots of its listing, and then the job's marks as they are now. What else the

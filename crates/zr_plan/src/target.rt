@@ -1,3 +1,5 @@
+//! The target's side of a plan: what it has, what it is receiving, and why a plan is a conflict.
+
 use zr_command::VersionRow;
 use zr_names::{Guid, Rows, SnapName};
 

@@ -1,3 +1,6 @@
+//! Dates and times of a UTC clock, and the moments that they are. Apart from `text`, which only
+//! spells them.
+
 ghost use Rattle.std.specs.Prelude.{◌≡◌, ◌<◌, ◌↔◌, ◌*ℤ◌, pos, IsSome, IfSome};
 ghost use Rattle.jiff_core.specs.DateTime.{civil_nanos};
 ghost use Rattle.zr_names.specs.declared.moment.TheConstants.{END_OF_TIME};

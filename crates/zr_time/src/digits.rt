@@ -1,3 +1,5 @@
+//! Numbers of a fixed count of digits, both ways.
+
 ghost use Rattle.std.specs.Prelude.{◌≡◌, ◌+◌, ◌/◌, ◌%◌, ◌<◌, ◌≤◌, length};
 ghost use Rattle.zr_time.specs.Digits.{ReadsNumber};
 

@@ -1,3 +1,5 @@
+//! What tells the moment at which units are due.
+
 ghost use Rattle.std.specs.Prelude.{ℕ, List, Option};
 ghost use Rattle.zr_top.specs.Clock.{Ticks};
 

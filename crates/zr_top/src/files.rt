@@ -1,3 +1,5 @@
+//! What job files are read from, and one job file read to its end.
+
 ghost use Rattle.std.specs.Prelude.{◌≡◌, ◌≢◌, ◌≤◌, ◌+◌, ◌++◌, ◌∷◌, [], ℕ, List, Option, Some, IfOk, OnOk, OnErr, find, take};
 ghost use Rattle.std.specs.Option.{option_copied};
 ghost use Rattle.zr_base.specs.Count.{Rose};

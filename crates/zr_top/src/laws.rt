@@ -1,3 +1,5 @@
+//! The usage line, as a law.
+
 ghost use Rattle.std.specs.Prelude.{◌≡◌, [], ◌∷◌, ◌++◌, codes};
 ghost use Rattle.zr_top.specs.declared.report.TheConstants.{USAGE};
 

@@ -1,3 +1,5 @@
+//! One round: the scan of each job, and then what the scans found.
+
 ghost use Rattle.std.specs.Prelude.{◌≡◌, ◌≤◌, ◌<◌, ◌^◌, All, IfErr, IfOk, List, length};
 ghost use Rattle.zr_base.specs.Count.{Rose};
 ghost use Rattle.zr_top.specs.Attempts.{Attempted, no_totals};

@@ -1,3 +1,5 @@
+//! Puts a line out as a whole, and tells want of memory from a failing output.
+
 ghost use Rattle.std.specs.Prelude.{true, ◌≡◌, ◌≢◌, ◌⊎◌, [], ◌∷◌, ◌++◌, Err, IfErr, OnOk};
 ghost use Rattle.zr_pipe.specs.Faults.{Rose};
 ghost use Rattle.std.specs.Io.KnownBytes.{append_known};

@@ -1,3 +1,5 @@
+//! Runs one unit to its end, whatever its kind. Apart from `once`, which goes through all.
+
 ghost use Rattle.std.specs.Prelude.{◌≡◌, ◌≤◌, ◌<◌, All, true, length};
 ghost use Rattle.zr_base.specs.Count.{Rose};
 ghost use Rattle.zr_names.specs.declared.unit.Work.TheVariants as work;

@@ -1,3 +1,5 @@
+//! The status that a call ends with, as an exit code.
+
 use zr_names::Totals;
 
 /// How a call ends.

@@ -1,3 +1,5 @@
+//! The command line, read into what it asks for.
+
 ghost use Rattle.std.specs.Prelude.{◌≡◌, map};
 ghost use Rattle.std.specs.String.{string_bytes};
 ghost use Rattle.std.specs.Option.{option_copied};

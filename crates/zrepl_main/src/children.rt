@@ -1,3 +1,6 @@
+//! The runner of the system's programs: one child whose output is read, or two with a pipe between
+//! them.
+
 ghost use Rattle.std.specs.Prelude.{◌≡◌, ◌≤◌, None, true, false};
 ghost use Rattle.zr_exec.specs.Exits.{is_child_fault, is_pipe_fault};
 ghost use Rattle.zr_base.specs.Count.{Rose};

@@ -1,3 +1,5 @@
+//! The system's clock.
+
 ghost use Rattle.std.specs.Prelude.{◌≡◌, ◌+◌, ◌*◌, ◌/◌, ◌%◌, ◌<◌, ◌≤◌, ◌↔◌, None, IsSome, IfSome};
 ghost use Rattle.std.specs.Duration.{as_nanos};
 ghost use Rattle.zr_names.specs.declared.moment.TheConstants.{END_OF_TIME};

@@ -1,3 +1,5 @@
+//! The system's files, opened so that nothing is waited for.
+
 ghost use Rattle.std.specs.Prelude.{None};
 
 use std::alloc::Global;

@@ -1,3 +1,6 @@
+//! Moves a stream between two children, and waits for both in the order that makes a cut stream a
+//! failed one.
+
 ghost use Rattle.std.specs.Prelude.{◌≡◌, ◌≢◌, ◌↔◌, ℕ, true, None, is_some};
 ghost use Rattle.std.specs.Process.{child_status};
 ghost use Rattle.zr_pipe.specs.Relay.{is_read_fault, is_write_fault};

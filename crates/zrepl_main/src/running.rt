@@ -1,3 +1,5 @@
+//! Starts one program and waits for it.
+
 ghost use Rattle.std.specs.Prelude.{◌≡◌, ◌≢◌, ◌≤◌, vec_len};
 ghost use Rattle.std.specs.Process.{child_status};
 ghost use Rattle.zr_exec.specs.declared.spawn.TheConstants.{LISTING_LIMIT};

@@ -1,3 +1,5 @@
+//! Looks at the receiving end while the sending end is silent.
+
 ghost use Rattle.std.specs.Prelude.{◌≡◌, None, false};
 ghost use Rattle.std.specs.Process.{child_status};
 ghost use Rattle.zrepl_main.specs.Ended.{EndedWell};
