@@ -33,6 +33,19 @@ fn holds(alloc: Global, set: &str, name: &str) -> Option<Cmd> {
     Some(Cmd::Holds(set, snap(alloc, name)?))
 }
 
+fn snapshot(alloc: Global, set: &str, name: &str) -> Option<Cmd> {
+    let set = path(alloc, set)?;
+    Some(Cmd::Snapshot(set, snap(alloc, name)?))
+}
+
+fn create(alloc: Global, set: &str) -> Option<Cmd> {
+    Some(Cmd::Create(path(alloc, set)?))
+}
+
+fn abort(alloc: Global, set: &str) -> Option<Cmd> {
+    Some(Cmd::Abort(path(alloc, set)?))
+}
+
 /// The snapshot, the kind of the hold and its job.
 fn hold(alloc: Global, set: &str, words: &mut Split<'_, char>) -> Option<Cmd> {
     let (name, of, by) = (word(words), kind(word(words))?, word(words));
@@ -107,11 +120,14 @@ pub fn command_of(alloc: Global, line: &str) -> Option<Cmd> {
         "sets" => Some(Cmd::Sets),
         "versions" => versions(alloc, set),
         "holds" => holds(alloc, set, word(&mut words)),
+        "snapshot" => snapshot(alloc, set, word(&mut words)),
         "hold" => hold(alloc, set, &mut words),
         "release" => release(alloc, set, &mut words),
         "bookmark" => bookmark(alloc, set, word(&mut words), word(&mut words)),
         "destroy" => destroy(alloc, set, word(&mut words)),
+        "create" => create(alloc, set),
         "send" => send(alloc, set, &mut words),
+        "abort" => abort(alloc, set),
         _ => None,
     }
 }

@@ -46,13 +46,16 @@ unfolding sets_words versions_words
 form-found (call.One cmd.Sets) n = refl
 form-found (call.One (cmd.Versions path)) n = refl
 form-found (call.One (cmd.Holds path name)) n = refl
+form-found (call.One (cmd.Snapshot path name)) n = refl
 form-found (call.One (cmd.Hold kind job path name)) n = refl
 form-found (call.One (cmd.Release kind job path name)) n = refl
 form-found (call.One (cmd.Bookmark path (version.Snap name) mark)) n = rw (has-at path name) refl
 form-found (call.One (cmd.Bookmark path (version.Mark name) mark)) n = rw (mark-no-at path name (path-plain path n.0) (name-plain 255 name n.1)) refl
 form-found (call.One (cmd.DestroySnap path name)) n = rw (has-at path name) refl
 form-found (call.One (cmd.DestroyMark path mark)) n = rw (mark-no-at path mark (path-plain path n.0) (name-plain 255 mark n.1)) refl
+form-found (call.One (cmd.Create path)) n = refl
 form-found (call.One (cmd.Transfer transfer)) n = absurd n
+form-found (call.One (cmd.Abort path)) n = refl
 form-found (call.SendFull path name) n = refl
 form-found (call.SendFrom path mark name) n = refl
 form-found (call.Receive path false) n = refl
@@ -64,6 +67,7 @@ unfolding versions_words
 names-found (call.One cmd.Sets) n = refl
 names-found (call.One (cmd.Versions path)) n = refl
 names-found (call.One (cmd.Holds path name)) n = rw (set-of path name 64 refl n.0, name-of path name 64 refl n.0) refl
+names-found (call.One (cmd.Snapshot path name)) n = rw (set-of path name 64 refl n.0, name-of path name 64 refl n.0) refl
 names-found (call.One (cmd.Hold kind job path name)) n =
     rw (kind-of kind job, after-front kind job, set-of path name 64 refl n.1, name-of path name 64 refl n.1) refl
 names-found (call.One (cmd.Release kind job path name)) n =
@@ -74,7 +78,9 @@ names-found (call.One (cmd.Bookmark path (version.Mark name) mark)) n =
     rw (set-of path name 35 refl n.0, name-of path name 35 refl n.0, name-of path mark 35 refl n.0) refl
 names-found (call.One (cmd.DestroySnap path name)) n = rw (set-of path name 64 refl n.0, name-of path name 64 refl n.0) refl
 names-found (call.One (cmd.DestroyMark path mark)) n = rw (set-of path mark 35 refl n.0, name-of path mark 35 refl n.0) refl
+names-found (call.One (cmd.Create path)) n = refl
 names-found (call.One (cmd.Transfer transfer)) n = absurd n
+names-found (call.One (cmd.Abort path)) n = refl
 names-found (call.SendFull path name) n = rw (set-of path name 64 refl n.0, name-of path name 64 refl n.0) refl
 names-found (call.SendFrom path mark name) n =
     rw (set-of path mark 35 refl n.0, name-of path mark 35 refl n.0, name-of path name 64 refl n.0) refl
@@ -135,12 +141,15 @@ unfolding sets_words versions_words
 some-words (call.One cmd.Sets) n e = cc
 some-words (call.One (cmd.Versions path)) n e = cc
 some-words (call.One (cmd.Holds path name)) n e = cc
+some-words (call.One (cmd.Snapshot path name)) n e = cc
 some-words (call.One (cmd.Hold kind job path name)) n e = cc
 some-words (call.One (cmd.Release kind job path name)) n e = cc
 some-words (call.One (cmd.Bookmark path from mark)) n e = cc
 some-words (call.One (cmd.DestroySnap path name)) n e = cc
 some-words (call.One (cmd.DestroyMark path mark)) n e = cc
+some-words (call.One (cmd.Create path)) n e = cc
 some-words (call.One (cmd.Transfer transfer)) n e = absurd n
+some-words (call.One (cmd.Abort path)) n e = cc
 some-words (call.SendFull path name) n e = cc
 some-words (call.SendFrom path mark name) n e = cc
 some-words (call.Receive path force) n e = cc

@@ -67,54 +67,63 @@ whole-from f words n ps is same all parts =
 -- the table
 abbrev pub forms : List Form
 forms =
-    form.Sets ∷ form.Versions ∷ form.Holds ∷ form.Hold ∷ form.Release ∷ form.BookmarkSnap ∷ form.BookmarkMark
-    ∷ form.DestroySnap ∷ form.DestroyMark ∷ form.SendFull ∷ form.SendFrom ∷ form.Receive ∷ form.ReceiveForced ∷ []
+    form.Sets ∷ form.Versions ∷ form.Holds ∷ form.Snapshot ∷ form.Hold ∷ form.Release ∷ form.BookmarkSnap ∷ form.BookmarkMark
+    ∷ form.DestroySnap ∷ form.DestroyMark ∷ form.Create ∷ form.SendFull ∷ form.SendFrom ∷ form.Receive ∷ form.ReceiveForced ∷ form.Abort ∷ []
 
 -- the place of a form in the table
 abbrev pub place_of : Form → ℕ
 place_of form.Sets = 0
 place_of form.Versions = 1
 place_of form.Holds = 2
-place_of form.Hold = 3
-place_of form.Release = 4
-place_of form.BookmarkSnap = 5
-place_of form.BookmarkMark = 6
-place_of form.DestroySnap = 7
-place_of form.DestroyMark = 8
-place_of form.SendFull = 9
-place_of form.SendFrom = 10
-place_of form.Receive = 11
-place_of form.ReceiveForced = 12
+place_of form.Snapshot = 3
+place_of form.Hold = 4
+place_of form.Release = 5
+place_of form.BookmarkSnap = 6
+place_of form.BookmarkMark = 7
+place_of form.DestroySnap = 8
+place_of form.DestroyMark = 9
+place_of form.Create = 10
+place_of form.SendFull = 11
+place_of form.SendFrom = 12
+place_of form.Receive = 13
+place_of form.ReceiveForced = 14
+place_of form.Abort = 15
 
-pub in-table : (f : Form) → place_of f < 13
+pub in-table : (f : Form) → place_of f < 16
 in-table form.Sets = omega arith
 in-table form.Versions = omega arith
 in-table form.Holds = omega arith
+in-table form.Snapshot = omega arith
 in-table form.Hold = omega arith
 in-table form.Release = omega arith
 in-table form.BookmarkSnap = omega arith
 in-table form.BookmarkMark = omega arith
 in-table form.DestroySnap = omega arith
 in-table form.DestroyMark = omega arith
+in-table form.Create = omega arith
 in-table form.SendFull = omega arith
 in-table form.SendFrom = omega arith
 in-table form.Receive = omega arith
 in-table form.ReceiveForced = omega arith
+in-table form.Abort = omega arith
 
 at-own : (f : Form) → f ≡ get_or forms (place_of f) form.Sets
 at-own form.Sets = refl
 at-own form.Versions = refl
 at-own form.Holds = refl
+at-own form.Snapshot = refl
 at-own form.Hold = refl
 at-own form.Release = refl
 at-own form.BookmarkSnap = refl
 at-own form.BookmarkMark = refl
 at-own form.DestroySnap = refl
 at-own form.DestroyMark = refl
+at-own form.Create = refl
 at-own form.SendFull = refl
 at-own form.SendFrom = refl
 at-own form.Receive = refl
 at-own form.ReceiveForced = refl
+at-own form.Abort = refl
 
 -- the form at a place of the table
 pub at-place : (i : ℕ) (f : Form) → place_of f ≡ i → f ≡ get_or forms i form.Sets
@@ -173,7 +182,7 @@ more-tried words count most n g t at is short =
     }
 
 -- where no word begins a call the first one is of none
-pub unknown : (words : List (List ℕ)) → Tried words 13 0 → IsUnknown words
+pub unknown : (words : List (List ℕ)) → Tried words 16 0 → IsUnknown words
 unknown [] t = tt
 unknown (w ∷ ws) t = λ b.
     let r = reached (w ∷ ws) 1 (omega arith) b in
@@ -187,7 +196,7 @@ known (w ∷ ws) (suc k) some within b u =
     u (record { given = b.given; more = take k ws ++ b.more; named = b.named; longer = b.longer })
 
 -- where all forms were tried, the most words that begin a call are known
-pub bad-word : (words : List (List ℕ)) (most : ℕ) → Tried words 13 most → 0 < most → Reads words (Err (BadWord most))
+pub bad-word : (words : List (List ℕ)) (most : ℕ) → Tried words 16 most → 0 < most → Reads words (Err (BadWord most))
 bad-word words most t some = (
   known words most some t.within t.begins,
   (λ c is. t.none (form_of c) (in-table (form_of c)) (spelled-whole words c is)),

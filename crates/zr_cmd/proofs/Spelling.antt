@@ -16,13 +16,16 @@ abbrev pub form_of : ZfsCall → Form
 form_of (call.One cmd.Sets) = form.Sets
 form_of (call.One (cmd.Versions path)) = form.Versions
 form_of (call.One (cmd.Holds path name)) = form.Holds
+form_of (call.One (cmd.Snapshot path name)) = form.Snapshot
 form_of (call.One (cmd.Hold kind job path name)) = form.Hold
 form_of (call.One (cmd.Release kind job path name)) = form.Release
 form_of (call.One (cmd.Bookmark path (version.Snap name) mark)) = form.BookmarkSnap
 form_of (call.One (cmd.Bookmark path (version.Mark name) mark)) = form.BookmarkMark
 form_of (call.One (cmd.DestroySnap path name)) = form.DestroySnap
 form_of (call.One (cmd.DestroyMark path mark)) = form.DestroyMark
+form_of (call.One (cmd.Create path)) = form.Create
 form_of (call.One (cmd.Transfer transfer)) = form.Sets
+form_of (call.One (cmd.Abort path)) = form.Abort
 form_of (call.SendFull path name) = form.SendFull
 form_of (call.SendFrom path mark name) = form.SendFrom
 form_of (call.Receive path false) = form.Receive
@@ -34,16 +37,19 @@ unfolding sets_words versions_words
 chained form.Sets = refl
 chained form.Versions = refl
 chained form.Holds = refl
+chained form.Snapshot = refl
 chained form.Hold = refl
 chained form.Release = refl
 chained form.BookmarkSnap = refl
 chained form.BookmarkMark = refl
 chained form.DestroySnap = refl
 chained form.DestroyMark = refl
+chained form.Create = refl
 chained form.SendFull = refl
 chained form.SendFrom = refl
 chained form.Receive = refl
 chained form.ReceiveForced = refl
+chained form.Abort = refl
 
 along-fixed : (ts : List (List ℕ)) (b : List ℕ) → Along (map fixed ts) b ts
 along-fixed [] b = tt
@@ -58,6 +64,7 @@ pub written : (c : ZfsCall) (b : List ℕ) → IsNamed c → Along (patterns_of 
 written (call.One cmd.Sets) b n = along-fixed sets_words b
 written (call.One (cmd.Versions path)) b n = along-then versions_words a_path b path (λ c. n)
 written (call.One (cmd.Holds path name)) b n = (refl, (refl, (full path name 64 refl n.0 n.1, tt)))
+written (call.One (cmd.Snapshot path name)) b n = (refl, (full path name 64 refl n.0 n.1, tt))
 written (call.One (cmd.Hold kind job path name)) b n = (refl, (job-tag kind job n.0, (full path name 64 refl n.1 n.2, tt)))
 written (call.One (cmd.Release kind job path name)) b n = (refl, (job-tag kind job n.0, (full path name 64 refl n.1 n.2, tt)))
 written (call.One (cmd.Bookmark path (version.Snap name) mark)) b n =
@@ -66,7 +73,9 @@ written (call.One (cmd.Bookmark path (version.Mark name) mark)) b n =
     (refl, (full path name 35 refl n.0 n.1, ((full path mark 35 refl n.0 n.2, set-of path mark 35 refl n.0 ∙ sym (set-of path name 35 refl n.0)), tt)))
 written (call.One (cmd.DestroySnap path name)) b n = (refl, (full path name 64 refl n.0 n.1, tt))
 written (call.One (cmd.DestroyMark path mark)) b n = (refl, (full path mark 35 refl n.0 n.1, tt))
+written (call.One (cmd.Create path)) b n = (refl, (refl, (refl, (refl, (refl, (n, tt))))))
 written (call.One (cmd.Transfer transfer)) b n = absurd n
+written (call.One (cmd.Abort path)) b n = (refl, (refl, (n, tt)))
 written (call.SendFull path name) b n = (refl, (full path name 64 refl n.0 n.1, tt))
 written (call.SendFrom path mark name) b n =
     (refl, (refl, (full path mark 35 refl n.0 n.1, ((full path name 64 refl n.0 n.2, set-of path name 64 refl n.0 ∙ sym (set-of path mark 35 refl n.0)), tt))))
@@ -82,13 +91,16 @@ pub all-written : (c : ZfsCall) → IsNamed c → length (words_of c) ≡ length
 all-written (call.One cmd.Sets) n = sym (length-map sets_words fixed)
 all-written (call.One (cmd.Versions path)) n = length-then versions_words a_path path
 all-written (call.One (cmd.Holds path name)) n = refl
+all-written (call.One (cmd.Snapshot path name)) n = refl
 all-written (call.One (cmd.Hold kind job path name)) n = refl
 all-written (call.One (cmd.Release kind job path name)) n = refl
 all-written (call.One (cmd.Bookmark path (version.Snap name) mark)) n = refl
 all-written (call.One (cmd.Bookmark path (version.Mark name) mark)) n = refl
 all-written (call.One (cmd.DestroySnap path name)) n = refl
 all-written (call.One (cmd.DestroyMark path mark)) n = refl
+all-written (call.One (cmd.Create path)) n = refl
 all-written (call.One (cmd.Transfer transfer)) n = absurd n
+all-written (call.One (cmd.Abort path)) n = refl
 all-written (call.SendFull path name) n = refl
 all-written (call.SendFrom path mark name) n = refl
 all-written (call.Receive path false) n = refl
@@ -150,6 +162,7 @@ exact form.Versions b at a =
     record { same = t.same ∙ ap (λ w. versions_words ++ w ∷ []) (sym t.at); named = subst IsPath (sym t.at) t.fits }
 exact form.Holds b at a =
     record { same = cons a.0 (cons a.1.0 (cons a.1.1.0.spelled refl)); named = (a.1.1.0.is_path, a.1.1.0.is_name) }
+exact form.Snapshot b at a = record { same = cons a.0 (cons a.1.0.spelled refl); named = (a.1.0.is_path, a.1.0.is_name) }
 exact form.Hold b at a =
     record { same = cons a.0 (cons a.1.0.spelled (cons a.1.1.0.spelled refl)); named = (a.1.0.is_job, a.1.1.0.is_path, a.1.1.0.is_name) }
 exact form.Release b at a =
@@ -160,6 +173,8 @@ exact form.BookmarkMark b at a =
     record { same = cons a.0 (cons a.1.0.spelled (cons (same-set (at 2) (at 1) 35 a.1.1.0.0 a.1.1.0.1) refl)); named = (a.1.0.is_path, a.1.0.is_name, a.1.1.0.0.is_name) }
 exact form.DestroySnap b at a = record { same = cons a.0 (cons a.1.0.spelled refl); named = (a.1.0.is_path, a.1.0.is_name) }
 exact form.DestroyMark b at a = record { same = cons a.0 (cons a.1.0.spelled refl); named = (a.1.0.is_path, a.1.0.is_name) }
+exact form.Create b at a =
+    record { same = cons a.0 (cons a.1.0 (cons a.1.1.0 (cons a.1.1.1.0 (cons a.1.1.1.1.0 refl)))); named = a.1.1.1.1.1.0 }
 exact form.SendFull b at a = record { same = cons a.0 (cons a.1.0.spelled refl); named = (a.1.0.is_path, a.1.0.is_name) }
 exact form.SendFrom b at a =
     record {
@@ -168,6 +183,7 @@ exact form.SendFrom b at a =
     }
 exact form.Receive b at a = record { same = cons a.0 (cons a.1.0 (cons a.1.1.0 refl)); named = a.1.1.1.0 }
 exact form.ReceiveForced b at a = record { same = cons a.0 (cons a.1.0 (cons a.1.1.0 (cons a.1.1.1.0 refl))); named = a.1.1.1.1.0 }
+exact form.Abort b at a = record { same = cons a.0 (cons a.1.0 refl); named = a.1.1.0 }
 
 pub spelled : (f : Form) (b : List ℕ) (ws : List (List ℕ)) → Along (patterns_of f) b ws → length ws ≡ length (patterns_of f) → Spells ws (read_as f ws)
 spelled f b ws a e =

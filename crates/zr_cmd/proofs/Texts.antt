@@ -94,20 +94,26 @@ pub one_words : (program : List ℕ) (c : Cmd) → IsNamed (call.One c) → argv
 one_words program cmd.Sets n = refl
 one_words program (cmd.Versions path) n = refl
 one_words program (cmd.Holds path name) n = refl
+one_words program (cmd.Snapshot path name) n = refl
 one_words program (cmd.Hold kind job path name) n = refl
 one_words program (cmd.Release kind job path name) n = refl
 one_words program (cmd.Bookmark path from mark) n = refl
 one_words program (cmd.DestroySnap path name) n = refl
 one_words program (cmd.DestroyMark path mark) n = refl
+one_words program (cmd.Create path) n = refl
 one_words program (cmd.Transfer transfer) n = absurd n
+one_words program (cmd.Abort path) n = refl
 
 pub one_named : (c : Cmd) → IsNamed (call.One c) → AreNamed c
 one_named cmd.Sets n = n
 one_named (cmd.Versions path) n = n
 one_named (cmd.Holds path name) n = n
+one_named (cmd.Snapshot path name) n = n
 one_named (cmd.Hold kind job path name) n = n
 one_named (cmd.Release kind job path name) n = n
 one_named (cmd.Bookmark path from mark) n = n
 one_named (cmd.DestroySnap path name) n = n
 one_named (cmd.DestroyMark path mark) n = n
+one_named (cmd.Create path) n = n
 one_named (cmd.Transfer transfer) n = absurd n
+one_named (cmd.Abort path) n = n

@@ -17,12 +17,15 @@ abbrev pub form_for : List (List ℕ) → Form
 form_for words =
     if bytes_eq (word_at words 0) (codes "list") then (if length words == 7 then form.Sets else form.Versions)
     else (if bytes_eq (word_at words 0) (codes "holds") then form.Holds
+    else (if bytes_eq (word_at words 0) (codes "snapshot") then form.Snapshot
     else (if bytes_eq (word_at words 0) (codes "hold") then form.Hold
     else (if bytes_eq (word_at words 0) (codes "release") then form.Release
     else (if bytes_eq (word_at words 0) (codes "bookmark") then (if is_snap words 1 then form.BookmarkSnap else form.BookmarkMark)
     else (if bytes_eq (word_at words 0) (codes "destroy") then (if is_snap words 1 then form.DestroySnap else form.DestroyMark)
+    else (if bytes_eq (word_at words 0) (codes "create") then form.Create
     else (if bytes_eq (word_at words 0) (codes "send") then (if length words == 2 then form.SendFull else form.SendFrom)
-    else (if length words == 4 then form.Receive else form.ReceiveForced)))))))
+    else (if length words == 3 then form.Abort
+    else (if length words == 4 then form.Receive else form.ReceiveForced))))))))))
 
 -- the words are those of the call
 abbrev pub has_words : List (List ℕ) → ZfsCall → Bool

@@ -69,17 +69,22 @@ abbrev pub patterns_of : Form → List Pattern
 patterns_of form.Sets = map fixed sets_words
 patterns_of form.Versions = map fixed versions_words ++ a_path ∷ []
 patterns_of form.Holds = fixed (codes "holds") ∷ fixed (codes "-H") ∷ a_snap ∷ []
+patterns_of form.Snapshot = fixed (codes "snapshot") ∷ a_snap ∷ []
 patterns_of form.Hold = fixed (codes "hold") ∷ a_tag ∷ a_snap ∷ []
 patterns_of form.Release = fixed (codes "release") ∷ a_tag ∷ a_snap ∷ []
 patterns_of form.BookmarkSnap = fixed (codes "bookmark") ∷ a_snap ∷ same_mark ∷ []
 patterns_of form.BookmarkMark = fixed (codes "bookmark") ∷ a_mark ∷ same_mark ∷ []
 patterns_of form.DestroySnap = fixed (codes "destroy") ∷ a_snap ∷ []
 patterns_of form.DestroyMark = fixed (codes "destroy") ∷ a_mark ∷ []
+patterns_of form.Create =
+    fixed (codes "create") ∷ fixed (codes "-o") ∷ fixed (codes "zrepl:placeholder=on") ∷ fixed (codes "-o")
+    ∷ fixed (codes "mountpoint=none") ∷ a_path ∷ []
 patterns_of form.SendFull = fixed (codes "send") ∷ a_snap ∷ []
 patterns_of form.SendFrom = fixed (codes "send") ∷ fixed (codes "-i") ∷ a_mark ∷ same_snap ∷ []
 patterns_of form.Receive = fixed (codes "receive") ∷ fixed (codes "-s") ∷ fixed (codes "-u") ∷ a_path ∷ []
 patterns_of form.ReceiveForced =
     fixed (codes "receive") ∷ fixed (codes "-s") ∷ fixed (codes "-u") ∷ fixed (codes "-F") ∷ a_path ∷ []
+patterns_of form.Abort = fixed (codes "receive") ∷ fixed (codes "-A") ∷ a_path ∷ []
 
 -- what a part of the table stands for
 abbrev pub pattern_of : Part → Pattern
@@ -99,6 +104,7 @@ abbrev pub read_as : Form → List (List ℕ) → ZfsCall
 read_as form.Sets words = call.One cmd.Sets
 read_as form.Versions words = call.One (cmd.Versions (word_at words 11))
 read_as form.Holds words = call.One (cmd.Holds (set_part (word_at words 2)) (name_part (word_at words 2)))
+read_as form.Snapshot words = call.One (cmd.Snapshot (set_part (word_at words 1)) (name_part (word_at words 1)))
 read_as form.Hold words =
     call.One (cmd.Hold (kind_part (word_at words 1)) (job_part (word_at words 1)) (set_part (word_at words 2)) (name_part (word_at words 2)))
 read_as form.Release words =
@@ -109,7 +115,9 @@ read_as form.BookmarkMark words =
     call.One (cmd.Bookmark (set_part (word_at words 1)) (version.Mark (name_part (word_at words 1))) (name_part (word_at words 2)))
 read_as form.DestroySnap words = call.One (cmd.DestroySnap (set_part (word_at words 1)) (name_part (word_at words 1)))
 read_as form.DestroyMark words = call.One (cmd.DestroyMark (set_part (word_at words 1)) (name_part (word_at words 1)))
+read_as form.Create words = call.One (cmd.Create (word_at words 5))
 read_as form.SendFull words = call.SendFull (set_part (word_at words 1)) (name_part (word_at words 1))
 read_as form.SendFrom words = call.SendFrom (set_part (word_at words 2)) (name_part (word_at words 2)) (name_part (word_at words 3))
 read_as form.Receive words = call.Receive (word_at words 3) false
 read_as form.ReceiveForced words = call.Receive (word_at words 4) true
+read_as form.Abort words = call.One (cmd.Abort (word_at words 2))

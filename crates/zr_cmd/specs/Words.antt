@@ -51,12 +51,16 @@ abbrev pub words_of : ZfsCall → List (List ℕ)
 words_of (call.One cmd.Sets) = sets_words
 words_of (call.One (cmd.Versions path)) = versions_words ++ path ∷ []
 words_of (call.One (cmd.Holds path name)) = codes "holds" ∷ codes "-H" ∷ snap_word path name ∷ []
+words_of (call.One (cmd.Snapshot path name)) = codes "snapshot" ∷ snap_word path name ∷ []
 words_of (call.One (cmd.Hold kind job path name)) = codes "hold" ∷ tag_text kind job ∷ snap_word path name ∷ []
 words_of (call.One (cmd.Release kind job path name)) = codes "release" ∷ tag_text kind job ∷ snap_word path name ∷ []
 words_of (call.One (cmd.Bookmark path from mark)) = codes "bookmark" ∷ version_word path from ∷ mark_word path mark ∷ []
 words_of (call.One (cmd.DestroySnap path name)) = codes "destroy" ∷ snap_word path name ∷ []
 words_of (call.One (cmd.DestroyMark path mark)) = codes "destroy" ∷ mark_word path mark ∷ []
+words_of (call.One (cmd.Create path)) =
+    codes "create" ∷ codes "-o" ∷ codes "zrepl:placeholder=on" ∷ codes "-o" ∷ codes "mountpoint=none" ∷ path ∷ []
 words_of (call.One (cmd.Transfer transfer)) = []
+words_of (call.One (cmd.Abort path)) = codes "receive" ∷ codes "-A" ∷ path ∷ []
 words_of (call.SendFull path name) = codes "send" ∷ snap_word path name ∷ []
 words_of (call.SendFrom path mark name) = codes "send" ∷ codes "-i" ∷ mark_word path mark ∷ snap_word path name ∷ []
 words_of (call.Receive path force) = codes "receive" ∷ receive_flags force ++ path ∷ []
@@ -80,12 +84,15 @@ abbrev pub IsNamed : ZfsCall → Type 0
 IsNamed (call.One cmd.Sets) = ⊤
 IsNamed (call.One (cmd.Versions path)) = IsPath path
 IsNamed (call.One (cmd.Holds path name)) = IsPath path × IsVersion name
+IsNamed (call.One (cmd.Snapshot path name)) = IsPath path × IsVersion name
 IsNamed (call.One (cmd.Hold kind job path name)) = IsJob job × IsPath path × IsVersion name
 IsNamed (call.One (cmd.Release kind job path name)) = IsJob job × IsPath path × IsVersion name
 IsNamed (call.One (cmd.Bookmark path from mark)) = IsPath path × IsVersionName from × IsVersion mark
 IsNamed (call.One (cmd.DestroySnap path name)) = IsPath path × IsVersion name
 IsNamed (call.One (cmd.DestroyMark path mark)) = IsPath path × IsVersion mark
+IsNamed (call.One (cmd.Create path)) = IsPath path
 IsNamed (call.One (cmd.Transfer transfer)) = ⊥
+IsNamed (call.One (cmd.Abort path)) = IsPath path
 IsNamed (call.SendFull path name) = IsPath path × IsVersion name
 IsNamed (call.SendFrom path mark name) = IsPath path × IsVersion mark × IsVersion name
 IsNamed (call.Receive path force) = IsPath path

@@ -67,6 +67,14 @@ const VERSIONS: [&str; 11] = [
     "name,guid,createtxg,creation,userrefs",
 ];
 
+const CREATE: [&str; 5] = [
+    "create",
+    "-o",
+    "zrepl:placeholder=on",
+    "-o",
+    "mountpoint=none",
+];
+
 #[tactic(auto, unfolding(crate::specs::Words::sets_words))]
 fn push_sets(alloc: Global, words: &mut Words) -> Result<(), AllocError>
     ensures { OnOk result (words.new ≡ words.old ++ sets_words) }
@@ -273,6 +281,20 @@ fn push_with_mark(
     push_mark(alloc, words, path, mark)
 }
 
+/// Takes these words and a path.
+fn push_with_path(
+    alloc: Global,
+    words: &mut Words,
+    texts: &[&str],
+    path: &Path,
+) -> Result<(), AllocError>
+    ensures words { OnOk result (words.new ≡ words.old ++ (map (λ text. text.now) texts.now ++ path.now ∷ [])) }
+    ensures named { OnOk result (IsPath path.now) }
+{
+    words.push_all(alloc, texts)?;
+    push_path(alloc, words, path)
+}
+
 /// Takes the words of a listing of versions.
 fn push_listing(alloc: Global, words: &mut Words, path: &Path) -> Result<(), AllocError>
     ensures words { OnOk result (words.new ≡ words.old ++ (versions_words ++ path.now ∷ [])) }
@@ -303,6 +325,7 @@ fn push_words(alloc: Global, words: &mut Words, cmd: &Cmd) -> Result<(), AllocEr
         Cmd::Sets => push_sets(alloc, words),
         Cmd::Versions(path) => push_listing(alloc, words, path),
         Cmd::Holds(path, name) => push_with_snap(alloc, words, &["holds", "-H"], path, name),
+        Cmd::Snapshot(path, name) => push_with_snap(alloc, words, &["snapshot"], path, name),
         Cmd::Hold(kind, job, path, name) => push_hold(alloc, words, "hold", *kind, job, path, name),
         Cmd::Release(kind, job, path, name) => {
             push_hold(alloc, words, "release", *kind, job, path, name)
@@ -310,7 +333,9 @@ fn push_words(alloc: Global, words: &mut Words, cmd: &Cmd) -> Result<(), AllocEr
         Cmd::Bookmark(path, from, mark) => push_bookmark(alloc, words, path, from, mark),
         Cmd::DestroySnap(path, name) => push_with_snap(alloc, words, &["destroy"], path, name),
         Cmd::DestroyMark(path, mark) => push_with_mark(alloc, words, &["destroy"], path, mark),
+        Cmd::Create(path) => push_with_path(alloc, words, &CREATE, path),
         Cmd::Transfer(_) => unreachable!(),
+        Cmd::Abort(path) => push_with_path(alloc, words, &["receive", "-A"], path),
     }
 }
 
@@ -358,11 +383,14 @@ pub fn argv_of(alloc: Global, program: &str, cmd: &Cmd) -> Result<Argv, NoMemory
         Cmd::Sets
         | Cmd::Versions(_)
         | Cmd::Holds(_, _)
+        | Cmd::Snapshot(_, _)
         | Cmd::Hold(_, _, _, _)
         | Cmd::Release(_, _, _, _)
         | Cmd::Bookmark(_, _, _)
         | Cmd::DestroySnap(_, _)
-        | Cmd::DestroyMark(_, _) => one_of(alloc, program, cmd)?,
+        | Cmd::DestroyMark(_, _)
+        | Cmd::Create(_)
+        | Cmd::Abort(_) => one_of(alloc, program, cmd)?,
     };
     Ok(argv)
 }

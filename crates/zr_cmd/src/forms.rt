@@ -39,32 +39,38 @@ pub enum Form {
     Sets,
     Versions,
     Holds,
+    Snapshot,
     Hold,
     Release,
     BookmarkSnap,
     BookmarkMark,
     DestroySnap,
     DestroyMark,
+    Create,
     SendFull,
     SendFrom,
     Receive,
     ReceiveForced,
+    Abort,
 }
 
-pub(crate) const FORMS: [Form; 13] = [
+pub(crate) const FORMS: [Form; 16] = [
     Form::Sets,
     Form::Versions,
     Form::Holds,
+    Form::Snapshot,
     Form::Hold,
     Form::Release,
     Form::BookmarkSnap,
     Form::BookmarkMark,
     Form::DestroySnap,
     Form::DestroyMark,
+    Form::Create,
     Form::SendFull,
     Form::SendFrom,
     Form::Receive,
     Form::ReceiveForced,
+    Form::Abort,
 ];
 
 const SETS: [Part; 7] = [
@@ -94,6 +100,8 @@ const VERSIONS: [Part; 12] = [
 
 const HOLDS: [Part; 3] = [Part::Fixed("holds"), Part::Fixed("-H"), Part::Snap];
 
+const SNAPSHOT: [Part; 2] = [Part::Fixed("snapshot"), Part::Snap];
+
 const HOLD: [Part; 3] = [Part::Fixed("hold"), Part::Tag, Part::Snap];
 
 const RELEASE: [Part; 3] = [Part::Fixed("release"), Part::Tag, Part::Snap];
@@ -105,6 +113,15 @@ const BOOKMARK_MARK: [Part; 3] = [Part::Fixed("bookmark"), Part::Mark, Part::Mar
 const DESTROY_SNAP: [Part; 2] = [Part::Fixed("destroy"), Part::Snap];
 
 const DESTROY_MARK: [Part; 2] = [Part::Fixed("destroy"), Part::Mark];
+
+const CREATE: [Part; 6] = [
+    Part::Fixed("create"),
+    Part::Fixed("-o"),
+    Part::Fixed("zrepl:placeholder=on"),
+    Part::Fixed("-o"),
+    Part::Fixed("mountpoint=none"),
+    Part::Path,
+];
 
 const SEND_FULL: [Part; 2] = [Part::Fixed("send"), Part::Snap];
 
@@ -130,6 +147,8 @@ const RECEIVE_FORCED: [Part; 5] = [
     Part::Path,
 ];
 
+const ABORT: [Part; 3] = [Part::Fixed("receive"), Part::Fixed("-A"), Part::Path];
+
 impl Form {
     ghost use Rattle.std.specs.Prelude.{◌≡◌, map};
     ghost use Rattle.zr_cmd.specs.Forms.{pattern_of, patterns_of};
@@ -142,16 +161,19 @@ impl Form {
             Form::Sets => &SETS,
             Form::Versions => &VERSIONS,
             Form::Holds => &HOLDS,
+            Form::Snapshot => &SNAPSHOT,
             Form::Hold => &HOLD,
             Form::Release => &RELEASE,
             Form::BookmarkSnap => &BOOKMARK_SNAP,
             Form::BookmarkMark => &BOOKMARK_MARK,
             Form::DestroySnap => &DESTROY_SNAP,
             Form::DestroyMark => &DESTROY_MARK,
+            Form::Create => &CREATE,
             Form::SendFull => &SEND_FULL,
             Form::SendFrom => &SEND_FROM,
             Form::Receive => &RECEIVE,
             Form::ReceiveForced => &RECEIVE_FORCED,
+            Form::Abort => &ABORT,
         }
     }
 }

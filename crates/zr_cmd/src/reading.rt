@@ -147,6 +147,34 @@ fn holds_as(alloc: Global, words: &[String]) -> Result<ZfsCall, NoMemory>
     Ok(ZfsCall::One(Cmd::Holds(path, name)))
 }
 
+/// The call of these words of a snapshot.
+fn snapshot_as(alloc: Global, words: &[String]) -> Result<ZfsCall, NoMemory>
+    requires { IsNamed (read_as form.Snapshot (texts words.now)) }
+    ensures { IfOk result (λ given. given ≡ read_as form.Snapshot (texts words.now)) }
+{
+    let path = set_at(alloc, words, 1)?;
+    let name = snap_at(alloc, words, 1)?;
+    Ok(ZfsCall::One(Cmd::Snapshot(path, name)))
+}
+
+/// The call of these words of a placeholder.
+fn create_as(alloc: Global, words: &[String]) -> Result<ZfsCall, NoMemory>
+    requires { IsNamed (read_as form.Create (texts words.now)) }
+    ensures { IfOk result (λ given. given ≡ read_as form.Create (texts words.now)) }
+{
+    let path = path_of(alloc, word_at(words, 5))?;
+    Ok(ZfsCall::One(Cmd::Create(path)))
+}
+
+/// The call of these words of an abort.
+fn abort_as(alloc: Global, words: &[String]) -> Result<ZfsCall, NoMemory>
+    requires { IsNamed (read_as form.Abort (texts words.now)) }
+    ensures { IfOk result (λ given. given ≡ read_as form.Abort (texts words.now)) }
+{
+    let path = path_of(alloc, word_at(words, 2))?;
+    Ok(ZfsCall::One(Cmd::Abort(path)))
+}
+
 /// The call of these words of a destroy of a snapshot.
 fn destroy_snap_as(alloc: Global, words: &[String]) -> Result<ZfsCall, NoMemory>
     requires { IsNamed (read_as form.DestroySnap (texts words.now)) }
@@ -196,16 +224,19 @@ fn call_as(alloc: Global, form: Form, words: &[String]) -> Result<ZfsCall, NoMem
         Form::Sets => Ok(ZfsCall::One(Cmd::Sets)),
         Form::Versions => versions_as(alloc, words),
         Form::Holds => holds_as(alloc, words),
+        Form::Snapshot => snapshot_as(alloc, words),
         Form::Hold => hold_as(alloc, words),
         Form::Release => release_as(alloc, words),
         Form::BookmarkSnap => bookmark_snap_as(alloc, words),
         Form::BookmarkMark => bookmark_mark_as(alloc, words),
         Form::DestroySnap => destroy_snap_as(alloc, words),
         Form::DestroyMark => destroy_mark_as(alloc, words),
+        Form::Create => create_as(alloc, words),
         Form::SendFull => send_full_as(alloc, words),
         Form::SendFrom => send_from_as(alloc, words),
         Form::Receive => Ok(ZfsCall::Receive(path_of(alloc, word_at(words, 3))?, false)),
         Form::ReceiveForced => Ok(ZfsCall::Receive(path_of(alloc, word_at(words, 4))?, true)),
+        Form::Abort => abort_as(alloc, words),
     }
 }
 

@@ -35,6 +35,8 @@ pub enum Cmd {
     Versions(Path),
     /// Lists the holds of a snapshot (zfs-holds(8)).
     Holds(Path, SnapName),
+    /// Takes a snapshot of a dataset (zfs-snapshot(8)).
+    Snapshot(Path, SnapName),
     /// Puts the hold of a job on a snapshot (zfs-hold(8)).
     Hold(TagKind, JobName, Path, SnapName),
     /// Takes the hold of a job off a snapshot (zfs-release(8)).
@@ -45,8 +47,12 @@ pub enum Cmd {
     DestroySnap(Path, SnapName),
     /// Destroys a bookmark (zfs-destroy(8)).
     DestroyMark(Path, MarkName),
+    /// Makes a placeholder: a dataset without a mount point, with the property `zrepl:placeholder` (zfs-create(8)).
+    Create(Path),
     /// Sends a snapshot from one dataset to another.
     Transfer(Transfer),
+    /// Gives up the partial receive of a dataset (zfs-receive(8), `-A`).
+    Abort(Path),
 }
 
 /// What a command that took effect gives back.
@@ -126,11 +132,14 @@ impl Cmd {
             Cmd::Sets
             | Cmd::Versions(_)
             | Cmd::Holds(_, _)
+            | Cmd::Snapshot(_, _)
             | Cmd::Hold(_, _, _, _)
             | Cmd::Release(_, _, _, _)
             | Cmd::Bookmark(_, _, _)
             | Cmd::DestroySnap(_, _)
-            | Cmd::DestroyMark(_, _) => self.same(),
+            | Cmd::DestroyMark(_, _)
+            | Cmd::Create(_)
+            | Cmd::Abort(_) => self.same(),
         }
     }
 }
@@ -202,12 +211,15 @@ impl Same for Cmd {
             Cmd::Sets => Ok(Cmd::Sets),
             Cmd::Versions(path) => Ok(Cmd::Versions(path.same()?)),
             Cmd::Holds(path, name) => Ok(Cmd::Holds(path.same()?, name.same()?)),
+            Cmd::Snapshot(path, name) => Ok(Cmd::Snapshot(path.same()?, name.same()?)),
             Cmd::Hold(kind, job, path, name) => same_hold(*kind, job, path, name),
             Cmd::Release(kind, job, path, name) => same_release(*kind, job, path, name),
             Cmd::Bookmark(path, version, mark) => same_bookmark(path, version, mark),
             Cmd::DestroySnap(path, name) => Ok(Cmd::DestroySnap(path.same()?, name.same()?)),
             Cmd::DestroyMark(path, mark) => Ok(Cmd::DestroyMark(path.same()?, mark.same()?)),
+            Cmd::Create(path) => Ok(Cmd::Create(path.same()?)),
             Cmd::Transfer(transfer) => Ok(Cmd::Transfer(transfer.same()?)),
+            Cmd::Abort(path) => Ok(Cmd::Abort(path.same()?)),
         }
     }
 }

@@ -1,4 +1,4 @@
-use Rattle.std.proofs.Common.{◌≡◌, ℕ, false, List, [], ◌∷◌, Option, Some, None, IsPermutation, refl, ap, ◌∙◌, sym, subst, inl, inr, drop}
+use Rattle.std.proofs.Common.{◌≡◌, ℕ, false, List, [], ◌∷◌, Ok, Option, Some, None, IsPermutation, refl, ap, ◌∙◌, sym, subst, inl, inr, drop}
 use Rattle.zr_listing.proofs.Rows.{full_name-one}
 use Rattle.zr_listing.proofs.Sorting.{differ-permutation, version-list}
 use Rattle.zr_listing.specs.Columns.{full_name, IsHoldLine, IsSetLine, IsVersionLine}
@@ -9,7 +9,7 @@ use Rattle.zr_cmd.specs.Words.{AreNamed, argv_words, IsNamed, Spells, words_of}
 use Rattle.zr_cmd.specs.declared.argv.Argv.TheVariants as argv
 use Rattle.zr_cmd.specs.declared.forms.ZfsCall.TheVariants as call
 use Rattle.zr_world.specs.Answering.{Answers, Acts, appended, is_no_memory, Logs}
-use Rattle.zr_world.specs.Effect.{go, left_by}
+use Rattle.zr_world.specs.Effect.{Effect}
 use Rattle.zr_world.specs.declared.effects.Extent.TheVariants as extent
 use Rattle.zr_command.specs.Plain.{plain}
 use Rattle.zr_command.specs.declared.command.Answer.{Answer}
@@ -45,7 +45,7 @@ use Rattle.zr_exec.proofs.VersionLines.{IsVersionLine-read, version_row_of-spell
 
 -- what a child did before memory was refused
 pub does_short : (command : Cmd) (before after : Pools) (ended : RunExit) (bytes : List ℕ) → Does command before after ended bytes → Does command before after exit.NoMemory bytes
-does_short command before after exit.Done bytes does = (extent.Whole, ap (left_by before) (sym does.1))
+does_short command before after exit.Done bytes does = (extent.Whole, Ok does.0, does.1)
 does_short command before after exit.Nonzero bytes does = does
 does_short command before after exit.Failed bytes does = does
 does_short command before after exit.TooLong bytes does = does
@@ -210,11 +210,14 @@ named-words : (program : List ℕ) (command : Cmd) (words : List (List ℕ)) →
 named-words program cmd.Sets words same named = one-word program words cmd.Sets same named
 named-words program (cmd.Versions path) words same named = one-word program words (cmd.Versions path) same named
 named-words program (cmd.Holds path name) words same named = one-word program words (cmd.Holds path name) same named
+named-words program (cmd.Snapshot path name) words same named = one-word program words (cmd.Snapshot path name) same named
 named-words program (cmd.Hold kind job path name) words same named = one-word program words (cmd.Hold kind job path name) same named
 named-words program (cmd.Release kind job path name) words same named = one-word program words (cmd.Release kind job path name) same named
 named-words program (cmd.Bookmark path from mark) words same named = one-word program words (cmd.Bookmark path from mark) same named
 named-words program (cmd.DestroySnap path name) words same named = one-word program words (cmd.DestroySnap path name) same named
 named-words program (cmd.DestroyMark path mark) words same named = one-word program words (cmd.DestroyMark path mark) same named
+named-words program (cmd.Create path) words same named = one-word program words (cmd.Create path) same named
+named-words program (cmd.Abort path) words same named = one-word program words (cmd.Abort path) same named
 named-words program (cmd.Transfer transfer) words same named = cc
 
 -- the words start a child of the program for the command
@@ -239,7 +242,7 @@ one-reply what bytes one other p q =
 
 some-extent : (command : Cmd) (before after : Pools) (ended : RunExit) (bytes : List ℕ) (given : Answer) → Does command before after ended bytes → IsAnswer (listed_by command) ended bytes given → Answers command before after given
 some-extent command before after exit.Done bytes (answer.Done given) does is =
-    does.1 ∙ ap (λ r. go after r) (one-reply (listed_by command) bytes does.0 given does.2 is)
+    subst (λ (r : Reply). Effect [] before command extent.Whole after (Ok r)) (one-reply (listed_by command) bytes does.0 given does.2 is) does.1
 some-extent command before after exit.Nonzero bytes (answer.Done given) does is = absurd is
 some-extent command before after exit.Failed bytes (answer.Done given) does is = absurd is
 some-extent command before after exit.TooLong bytes (answer.Done given) does is = absurd is

@@ -70,11 +70,14 @@ pub plain_named : (command : Cmd) → IsNamed (call.One command) → plain comma
 plain_named cmd.Sets named = refl
 plain_named (cmd.Versions path) named = refl
 plain_named (cmd.Holds path name) named = refl
+plain_named (cmd.Snapshot path name) named = refl
 plain_named (cmd.Hold kind job path name) named = refl
 plain_named (cmd.Release kind job path name) named = refl
 plain_named (cmd.Bookmark path from mark) named = refl
 plain_named (cmd.DestroySnap path name) named = refl
 plain_named (cmd.DestroyMark path mark) named = refl
+plain_named (cmd.Create path) named = refl
+plain_named (cmd.Abort path) named = refl
 plain_named (cmd.Transfer transfer) named = absurd named
 
 -- the words start a child of this program for the command

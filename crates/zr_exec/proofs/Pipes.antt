@@ -2,18 +2,15 @@ use Rattle.std.proofs.Common.{◌≡◌, ℕ, List, [], ◌∷◌, Option, Some,
 use Rattle.zr_cmd.specs.Words.{AreNamed, argv_words, receive_of, send_of, words_of}
 use Rattle.zr_cmd.specs.declared.argv.Argv.TheVariants as argv
 use Rattle.zr_world.specs.Answering.{Acts, AnswersWords, appended, IsGiven, Logs}
-use Rattle.zr_world.specs.Effect.{left_by, step_at, unless_refused}
+use Rattle.zr_world.specs.Effect.{MayCome}
+use Rattle.zr_world.proofs.Applied.{nothing-comes}
 use Rattle.zr_command.specs.Plain.{plain, plain_transfer}
-use Rattle.zr_world.specs.Reasons.{refusal}
 use Rattle.zr_command.specs.declared.command.Answer.{Answer}
 use Rattle.zr_command.specs.declared.command.Answer.TheVariants as answer
 use Rattle.zr_command.specs.declared.command.Cmd.{Cmd}
 use Rattle.zr_command.specs.declared.command.Cmd.TheVariants as cmd
 use Rattle.zr_command.specs.declared.command.Entry.TheVariants as entry
-use Rattle.zr_command.specs.declared.command.Reply.TheVariants as reply
 use Rattle.zr_command.specs.declared.command.Transfer.{Transfer}
-use Rattle.zr_world.specs.declared.effects.Extent.TheVariants as extent
-use Rattle.zr_world.specs.declared.effects.Refusal.{Refusal}
 use Rattle.zr_world.specs.declared.pools.Pools.{Pools}
 use Rattle.zr_exec.specs.declared.spawn.Line.{Line}
 use Rattle.zr_exec.specs.declared.spawn.PipeExit.{PipeExit}
@@ -47,23 +44,19 @@ given send receive before asked transfer spelled gives = record {
   stands = gives.stands;
 }
 
-nothing-left : (before : Pools) (why : Option Refusal) → left_by before (unless_refused why before reply.Nothing) ≡ before
-nothing-left before None = refl
-nothing-left before (Some why) = refl
-
--- a command that was not done had no extent
-none-came : (before : Pools) (command : Cmd) → before ≡ left_by before (step_at before command extent.None)
-none-came before command = sym (nothing-left before (refusal before command))
+-- a command that was not done may have had no extent
+none-came : (before after : Pools) (command : Cmd) → after ≡ before → MayCome [] before command after
+none-came before after command same = subst (MayCome [] before command) (sym same) (nothing-comes before command)
 
 does : (send receive : List (List ℕ)) (before after : Pools) (asked : Transfer) (exit : PipeExit) → SpellsPipe send receive asked → DoesPipe send receive before after exit → AnswersWords (cmd.Transfer asked) before after (pipe_answer exit)
 does send receive before after asked piped.Done spelled came =
     inr (cmd.Transfer came.0, given send receive before asked came.0 spelled came.1, came.2)
 does send receive before after asked piped.Failed spelled came = elim came [
-  | inl same ↦ inl (extent.None, same ∙ none-came before (cmd.Transfer asked))
+  | inl same ↦ inl (none-came before after (cmd.Transfer asked) same)
   | inr some ↦ inr (cmd.Transfer some.0, given send receive before asked some.0 spelled some.1, some.2)
 ]
 does send receive before after asked piped.NoMemory spelled came = elim came [
-  | inl same ↦ inl (extent.None, same ∙ none-came before (cmd.Transfer asked))
+  | inl same ↦ inl (none-came before after (cmd.Transfer asked) same)
   | inr some ↦ inr (cmd.Transfer some.0, given send receive before asked some.0 spelled some.1, some.2)
 ]
 
@@ -90,11 +83,14 @@ named-ends : (program : List ℕ) (command : Cmd) (send receive : List (List ℕ
 named-ends program cmd.Sets send receive same named = cc
 named-ends program (cmd.Versions path) send receive same named = cc
 named-ends program (cmd.Holds path name) send receive same named = cc
+named-ends program (cmd.Snapshot path name) send receive same named = cc
 named-ends program (cmd.Hold kind job path name) send receive same named = cc
 named-ends program (cmd.Release kind job path name) send receive same named = cc
 named-ends program (cmd.Bookmark path from mark) send receive same named = cc
 named-ends program (cmd.DestroySnap path name) send receive same named = cc
 named-ends program (cmd.DestroyMark path mark) send receive same named = cc
+named-ends program (cmd.Create path) send receive same named = cc
+named-ends program (cmd.Abort path) send receive same named = cc
 named-ends program (cmd.Transfer transfer) send receive same named =
     let first : send ≡ program ∷ words_of (send_of transfer) = cc in
     let second : receive ≡ program ∷ words_of (receive_of transfer) = cc in
@@ -138,4 +134,4 @@ pipe_acts program first old new send receive command exit begun start serves =
 -- where memory is refused before a child starts, nothing comes
 pub idle_acts : (command : Cmd) (pools : Option Pools) → Acts command pools pools answer.NoMemory
 idle_acts command None = tt
-idle_acts command (Some before) = inl (extent.None, none-came before command)
+idle_acts command (Some before) = inl (nothing-comes before command)

@@ -1,4 +1,4 @@
-use Rattle.std.specs.Prelude.{◌≡◌, ℕ, List, Option, Some, None, ⊤, ◌⊎◌}
+use Rattle.std.specs.Prelude.{◌≡◌, ℕ, List, [], Ok, Option, Some, None, ⊤, ◌⊎◌}
 use Rattle.zr_cmd.specs.Words.{receive_of, send_of, Spells}
 use Rattle.zr_cmd.specs.declared.forms.ZfsCall.TheVariants as call
 use Rattle.zr_exec.specs.declared.spawn.PipeExit.{PipeExit}
@@ -13,9 +13,9 @@ use Rattle.zr_command.specs.declared.command.Cmd.TheVariants as cmd
 use Rattle.zr_command.specs.declared.command.Reply.{Reply}
 use Rattle.zr_command.specs.declared.command.Reply.TheVariants as reply
 use Rattle.zr_command.specs.declared.command.Transfer.{Transfer}
-use Rattle.zr_world.specs.declared.effects.Extent.{Extent}
+use Rattle.zr_world.specs.declared.effects.Extent.TheVariants as extent
 use Rattle.zr_world.specs.declared.pools.Pools.{Pools}
-use Rattle.zr_world.specs.Effect.{Effect, step, go}
+use Rattle.zr_world.specs.Effect.{Effect, MayCome}
 use Rattle.zr_world.specs.Reasons.{first_that_applies, source_reasons}
 
 -- the bytes are a child's that gives this reply: the listing of these rows, and where nothing is listed any bytes
@@ -26,12 +26,12 @@ IsReply (listed.holds path name) bytes (reply.Holds tags) = IsHoldListing path n
 IsReply listed.nothing bytes reply.Nothing = ⊤
 IsReply what bytes given = ⊥
 
--- a child that ended well did the whole command and wrote its reply; after every other end the command may have had any
--- extent
+-- where nothing else runs, a child that ended well did the whole command and wrote its reply; after every other end the
+-- command may have had any extent
 abbrev pub Does : Cmd → Pools → Pools → RunExit → List ℕ → Type 0
 Does command before after Done bytes =
-    (given : Reply) × (step before command ≡ go after given) × IsReply (listed_by command) bytes given
-Does command before after exit bytes = (some : Extent) × Effect before command some after
+    (given : Reply) × Effect [] before command extent.Whole after (Ok given) × IsReply (listed_by command) bytes given
+Does command before after exit bytes = MayCome [] before command after
 
 -- a child does the command that its words spell; where they spell none, as those of one end of a transfer alone, it does
 -- nothing
@@ -58,8 +58,9 @@ pub record PipeGives (send receive : List (List ℕ)) (pools : Pools) (transfer 
 
 -- a transfer whose pipe ended well came whole, and after every other end it may have come at any extent
 abbrev pub DoesTransfer : Transfer → Pools → Pools → PipeExit → Type 0
-DoesTransfer transfer before after piped.Done = step before (cmd.Transfer transfer) ≡ go after reply.Nothing
-DoesTransfer transfer before after exit = (some : Extent) × Effect before (cmd.Transfer transfer) some after
+DoesTransfer transfer before after piped.Done =
+    Effect [] before (cmd.Transfer transfer) extent.Whole after (Ok reply.Nothing)
+DoesTransfer transfer before after exit = MayCome [] before (cmd.Transfer transfer) after
 
 -- a pipe that ended well did a transfer that its words give on these pools; after every other end nothing came, or such a
 -- transfer did at some extent

@@ -93,12 +93,15 @@ fn read_reply(alloc: Global, cmd: &Cmd, out: &[u8]) -> Answer
             Ok(tags) => Answer::Done(Reply::Holds(tags)),
             Err(fault) => refused(fault),
         },
-        Cmd::Hold(_, _, _, _)
+        Cmd::Snapshot(_, _)
+        | Cmd::Hold(_, _, _, _)
         | Cmd::Release(_, _, _, _)
         | Cmd::Bookmark(_, _, _)
         | Cmd::DestroySnap(_, _)
         | Cmd::DestroyMark(_, _)
-        | Cmd::Transfer(_) => Answer::Done(Reply::Nothing),
+        | Cmd::Create(_)
+        | Cmd::Transfer(_)
+        | Cmd::Abort(_) => Answer::Done(Reply::Nothing),
     }
 }
 

@@ -29,33 +29,42 @@ pub failed-tells : (pair : Pair) (command : Cmd) (known : Known) → told_by pai
 failed-tells pair cmd.Sets known = refl
 failed-tells pair (cmd.Versions path) known = refl
 failed-tells pair (cmd.Holds path name) known = refl
+failed-tells pair (cmd.Snapshot path name) known = refl
 failed-tells pair (cmd.Hold kind job path name) known = refl
 failed-tells pair (cmd.Release kind job path name) known = refl
 failed-tells pair (cmd.Bookmark path version name) known = refl
 failed-tells pair (cmd.DestroySnap path name) known = refl
 failed-tells pair (cmd.DestroyMark path name) known = refl
+failed-tells pair (cmd.Create path) known = refl
+failed-tells pair (cmd.Abort path) known = refl
 failed-tells pair (cmd.Transfer transfer) known = refl
 
 pub garbled-tells : (pair : Pair) (command : Cmd) (line : ℕ) (known : Known) → told_by pair command (answer.Garbled line) known ≡ known
 garbled-tells pair cmd.Sets line known = refl
 garbled-tells pair (cmd.Versions path) line known = refl
 garbled-tells pair (cmd.Holds path name) line known = refl
+garbled-tells pair (cmd.Snapshot path name) line known = refl
 garbled-tells pair (cmd.Hold kind job path name) line known = refl
 garbled-tells pair (cmd.Release kind job path name) line known = refl
 garbled-tells pair (cmd.Bookmark path version name) line known = refl
 garbled-tells pair (cmd.DestroySnap path name) line known = refl
 garbled-tells pair (cmd.DestroyMark path name) line known = refl
+garbled-tells pair (cmd.Create path) line known = refl
+garbled-tells pair (cmd.Abort path) line known = refl
 garbled-tells pair (cmd.Transfer transfer) line known = refl
 
 pub no-memory-tells : (pair : Pair) (command : Cmd) (known : Known) → told_by pair command answer.NoMemory known ≡ known
 no-memory-tells pair cmd.Sets known = refl
 no-memory-tells pair (cmd.Versions path) known = refl
 no-memory-tells pair (cmd.Holds path name) known = refl
+no-memory-tells pair (cmd.Snapshot path name) known = refl
 no-memory-tells pair (cmd.Hold kind job path name) known = refl
 no-memory-tells pair (cmd.Release kind job path name) known = refl
 no-memory-tells pair (cmd.Bookmark path version name) known = refl
 no-memory-tells pair (cmd.DestroySnap path name) known = refl
 no-memory-tells pair (cmd.DestroyMark path name) known = refl
+no-memory-tells pair (cmd.Create path) known = refl
+no-memory-tells pair (cmd.Abort path) known = refl
 no-memory-tells pair (cmd.Transfer transfer) known = refl
 
 pub destroy-tells : (pair : Pair) (path name : List ℕ) (given : Answer) (known : Known) → told_by pair (cmd.DestroySnap path name) given known ≡ known

@@ -1,4 +1,4 @@
-use Rattle.std.proofs.Common.{◌≡◌, ℕ, List, Option, Some, None, inl, inr, ap, sym, subst}
+use Rattle.std.proofs.Common.{◌≡◌, ℕ, List, Ok, Option, Some, None, inl, inr, ap, refl, sym, subst}
 use Rattle.zr_cmd.specs.Words.{receive_of, send_of, Spells}
 use Rattle.zr_cmd.specs.declared.forms.ZfsCall.{ZfsCall}
 use Rattle.zr_cmd.specs.declared.forms.ZfsCall.TheVariants as call
@@ -14,10 +14,11 @@ use Rattle.zr_exec.proofs.Answers.{does_short}
 use Rattle.zr_exec.proofs.Commands.{one_call, one_command}
 use Rattle.zr_model.specs.Stored.{IsRecorded, IsRecordedPipe}
 use Rattle.zr_command.specs.declared.command.Cmd.{Cmd}
+use Rattle.zr_command.specs.declared.command.Reply.TheVariants as reply
 use Rattle.zr_command.specs.declared.command.Transfer.{Transfer}
 use Rattle.zr_world.specs.declared.effects.Extent.TheVariants as extent
 use Rattle.zr_world.specs.declared.pools.Pools.{Pools}
-use Rattle.zr_world.specs.Effect.{left_by}
+use Rattle.zr_world.proofs.Applied.{nothing-comes}
 
 short : (words : List (List ℕ)) (before after : Pools) (exit : RunExit) (bytes : List ℕ) → DoesWords words before after exit bytes → DoesWords words before after NoMemory bytes
 short words before after exit bytes does = record {
@@ -35,6 +36,10 @@ does_recorded words all noted before old after lines more exit given bytes writt
       | inr lost ↦ subst (λ (e : RunExit). DoesWords words before after e bytes) (sym lost.1) (short words before after exit bytes does)
     ]))
 
+-- a child for which memory is refused before it begins does nothing
+pub does_nothing : (words : List (List ℕ)) (pools : Pools) (bytes : List ℕ) → DoesWords words pools pools NoMemory bytes
+does_nothing words pools bytes = record { command = λ given spelled. nothing-comes pools given; nothing = λ none. refl }
+
 -- a child that does the command that its words spell
 pub does_spelled : (words : List (List ℕ)) (command : Cmd) (before after : Pools) (exit : RunExit) (bytes : List ℕ) → Spells words (call.One command) → Does command before after exit bytes → DoesWords words before after exit bytes
 does_spelled words command before after exit bytes spelled does = record {
@@ -43,7 +48,7 @@ does_spelled words command before after exit bytes spelled does = record {
 }
 
 transfer-short : (transfer : Transfer) (before after : Pools) → DoesTransfer transfer before after piped.Done → DoesTransfer transfer before after piped.NoMemory
-transfer-short transfer before after does = (extent.Whole, ap (left_by before) (sym does))
+transfer-short transfer before after does = (extent.Whole, Ok reply.Nothing, does)
 
 pipe-short : (send receive : List (List ℕ)) (before after : Pools) (exit : PipeExit) → DoesPipe send receive before after exit → DoesPipe send receive before after piped.NoMemory
 pipe-short send receive before after piped.Done does = inr (does.0, does.1, transfer-short does.0 before after does.2)

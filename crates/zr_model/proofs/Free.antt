@@ -1,19 +1,20 @@
-use Rattle.std.proofs.Common.{◌≡◌, ℕ, true, [], Option, Some, None, map, length, refl, ap, subst, arith}
+use Rattle.std.proofs.Common.{◌≡◌, ℕ, true, [], Ok, Option, Some, None, map, length, refl, ap, subst, sym, arith}
 use Rattle.std.specs.Option.{option_map_or}
 use Rattle.std.proofs.lemmas.List.Elements.{All-map}
 use Rattle.zr_base.proofs.Lists.{found_from_All}
-use Rattle.zr_world.specs.declared.effects.Refusal.{Refusal}
 use Rattle.zr_command.specs.declared.command.Cmd.{Cmd}
 use Rattle.zr_command.specs.declared.command.Cmd.TheVariants as cmd
 use Rattle.zr_command.specs.declared.command.Reply.{Reply}
 use Rattle.zr_world.specs.declared.pools.Dataset.{Dataset}
 use Rattle.zr_world.specs.declared.pools.Pools.{Pools}
 use Rattle.zr_command.specs.declared.version.VersionRow.{VersionRow}
-use Rattle.zr_world.specs.Effect.{after_since, go, reply_to, step, unless_refused}
+use Rattle.zr_command.specs.declared.command.Reply.TheVariants as reply
+use Rattle.zr_world.specs.Effect.{Effect, Replies}
+use Rattle.zr_world.specs.declared.effects.Extent.TheVariants as extent
+use Rattle.zr_world.proofs.Moments.{came-whole}
 use Rattle.zr_world.specs.Lookup.{dataset_at, is_at}
 use Rattle.zr_command.specs.Names.{is_mark}
 use Rattle.zr_world.specs.Pools.{IsWellFormed, IsWellFormedSet}
-use Rattle.zr_world.specs.Reasons.{refusal}
 use Rattle.zr_world.specs.Rows.{row_of_version}
 use Rattle.zr_listing.specs.Printing.{MarksAreFree}
 use Rattle.zr_model.specs.Ends.{AreFree}
@@ -27,23 +28,27 @@ versions-free : (pools : Pools) (found : Option Dataset) → ((set : Dataset) �
 versions-free pools None each = λ k d inside. absurd (omega arith)
 versions-free pools (Some set) each = rows-free pools.next_txg set (each set refl)
 
-reply-free : (pools : Pools) (command : Cmd) → IsWellFormed pools → AreFree (reply_to pools command)
-reply-free pools cmd.Sets formed = tt
-reply-free pools (cmd.Versions path) formed =
-    versions-free pools (dataset_at pools path) (λ set found. found_from_All (IsWellFormedSet pools.next_txg) (is_at path) pools.sets set found formed.each)
-reply-free pools (cmd.Holds path name) formed = tt
-reply-free pools (cmd.Hold kind job path name) formed = tt
-reply-free pools (cmd.Release kind job path name) formed = tt
-reply-free pools (cmd.Bookmark path from mark) formed = tt
-reply-free pools (cmd.DestroySnap path name) formed = tt
-reply-free pools (cmd.DestroyMark path mark) formed = tt
-reply-free pools (cmd.Transfer transfer) formed = tt
-
-replied : (why : Option Refusal) (left after : Pools) (said given : Reply) → unless_refused why left said ≡ go after given → said ≡ given
-replied (Some why) left after said given done = cc
-replied None left after said given done = cc
+-- what the table replies is given back by a command that came whole, and counts no holds at a bookmark
+replied-free : (pools : Pools) (command : Cmd) (given : Reply) → IsWellFormed pools → Replies [] pools command given → AreFree given
+replied-free pools cmd.Sets (reply.Sets rows) formed replies = tt
+replied-free pools cmd.Sets reply.Nothing formed replies = absurd replies
+replied-free pools cmd.Sets (reply.Versions rows) formed replies = absurd replies
+replied-free pools cmd.Sets (reply.Holds tags) formed replies = absurd replies
+replied-free pools (cmd.Versions path) given formed replies =
+    subst AreFree (sym replies)
+    (versions-free pools (dataset_at pools path) (λ set found. found_from_All (IsWellFormedSet pools.next_txg) (is_at path) pools.sets set found formed.each))
+replied-free pools (cmd.Holds path name) given formed replies = subst AreFree (sym replies) tt
+replied-free pools (cmd.Snapshot path name) given formed replies = subst AreFree (sym replies) tt
+replied-free pools (cmd.Hold kind job path name) given formed replies = subst AreFree (sym replies) tt
+replied-free pools (cmd.Release kind job path name) given formed replies = subst AreFree (sym replies) tt
+replied-free pools (cmd.Bookmark path from mark) given formed replies = subst AreFree (sym replies) tt
+replied-free pools (cmd.DestroySnap path name) given formed replies = subst AreFree (sym replies) tt
+replied-free pools (cmd.DestroyMark path mark) given formed replies = subst AreFree (sym replies) tt
+replied-free pools (cmd.Create path) given formed replies = subst AreFree (sym replies) tt
+replied-free pools (cmd.Transfer transfer) given formed replies = subst AreFree (sym replies) tt
+replied-free pools (cmd.Abort path) given formed replies = subst AreFree (sym replies) tt
 
 -- what well-formed pools reply counts no holds at a bookmark
-pub free_replies : (pools after : Pools) (command : Cmd) (given : Reply) → step pools command ≡ go after given → IsWellFormed pools → AreFree given
+pub free_replies : (pools after : Pools) (command : Cmd) (given : Reply) → Effect [] pools command extent.Whole after (Ok given) → IsWellFormed pools → AreFree given
 free_replies pools after command given done formed =
-    subst AreFree (replied (refusal pools command) (after_since pools pools command) after (reply_to pools command) given done) (reply-free pools command formed)
+    replied-free pools command given formed (came-whole pools after command given done).2

@@ -26,33 +26,42 @@ plain-itself : (c : Cmd) → is_transfer c ≡ false → plain c ≡ c
 plain-itself cmd.Sets e = refl
 plain-itself (cmd.Versions path) e = refl
 plain-itself (cmd.Holds path name) e = refl
+plain-itself (cmd.Snapshot path name) e = refl
 plain-itself (cmd.Hold kind job path name) e = refl
 plain-itself (cmd.Release kind job path name) e = refl
 plain-itself (cmd.Bookmark path version name) e = refl
 plain-itself (cmd.DestroySnap path name) e = refl
 plain-itself (cmd.DestroyMark path name) e = refl
+plain-itself (cmd.Create path) e = refl
+plain-itself (cmd.Abort path) e = refl
 plain-itself (cmd.Transfer transfer) e = cc
 
 plain-kind : (c : Cmd) → is_transfer (plain c) ≡ is_transfer c
 plain-kind cmd.Sets = refl
 plain-kind (cmd.Versions path) = refl
 plain-kind (cmd.Holds path name) = refl
+plain-kind (cmd.Snapshot path name) = refl
 plain-kind (cmd.Hold kind job path name) = refl
 plain-kind (cmd.Release kind job path name) = refl
 plain-kind (cmd.Bookmark path version name) = refl
 plain-kind (cmd.DestroySnap path name) = refl
 plain-kind (cmd.DestroyMark path name) = refl
+plain-kind (cmd.Create path) = refl
+plain-kind (cmd.Abort path) = refl
 plain-kind (cmd.Transfer transfer) = refl
 
 transfer-is : (c : Cmd) → is_transfer c ≡ true → (transfer : Transfer) × (c ≡ cmd.Transfer transfer)
 transfer-is cmd.Sets e = cc
 transfer-is (cmd.Versions path) e = cc
 transfer-is (cmd.Holds path name) e = cc
+transfer-is (cmd.Snapshot path name) e = cc
 transfer-is (cmd.Hold kind job path name) e = cc
 transfer-is (cmd.Release kind job path name) e = cc
 transfer-is (cmd.Bookmark path version name) e = cc
 transfer-is (cmd.DestroySnap path name) e = cc
 transfer-is (cmd.DestroyMark path name) e = cc
+transfer-is (cmd.Create path) e = cc
+transfer-is (cmd.Abort path) e = cc
 transfer-is (cmd.Transfer transfer) e = (transfer, refl)
 
 -- one transfer at most is permitted to a unit after its turns

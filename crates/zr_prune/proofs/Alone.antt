@@ -18,15 +18,14 @@ use Rattle.zr_command.specs.declared.version.VersionName.TheVariants.{Snap}
 use Rattle.zr_command.specs.declared.version.VersionRow.{VersionRow}
 use Rattle.zr_command.specs.Names.{same_text}
 use Rattle.zr_command.specs.Plain.{plain}
-use Rattle.zr_world.specs.declared.effects.Refusal.{Refusal}
 use Rattle.zr_world.specs.declared.pools.Dataset.{Dataset}
 use Rattle.zr_world.specs.declared.pools.Pools.{Pools}
 use Rattle.zr_world.specs.declared.pools.Version.{Version}
 use Rattle.zr_world.specs.Answering.{Acts, Answers, AnswersWords}
-use Rattle.zr_world.specs.Effect.{after_since, first_changed, go, reply_to, step, unless_refused, with_set, without}
+use Rattle.zr_world.specs.Effect.{first_changed, Leaves, Replies, with_set, without}
 use Rattle.zr_world.specs.Lookup.{dataset_at, has_name, is_at}
-use Rattle.zr_world.specs.Reasons.{refusal_since}
 use Rattle.zr_world.specs.Rows.{row_of_version}
+use Rattle.zr_world.proofs.Moments.{came-whole}
 use Rattle.std.specs.Cmp.Lexicographic.{nat_list_eq_equiv}
 use Rattle.zr_names.specs.declared.unit.Unit.{Unit}
 use Rattle.zr_jobs.specs.declared.job.JobSet.{JobSet}
@@ -40,50 +39,53 @@ use Rattle.zr_prune.specs.Alone.{is_snap_among, PrunesAlone, rows_at, without_sn
 use Rattle.zr_prune.specs.Pruning.{HasGivenAll, IsPruned, IsPruning}
 use Rattle.zr_prune.proofs.Steps.{commands}
 
--- a command that came whole has left the pools of the table, and its reply
-stepped : (before after : Pools) (command : Cmd) (given : Reply) → step before command ≡ go after given → (after ≡ after_since before before command) × (given ≡ reply_to before command)
-stepped before after command given e = choose (refusal_since before before command) e where
-  choose : (why : Option Refusal) → unless_refused why (after_since before before command) (reply_to before command) ≡ go after given → (after ≡ after_since before before command) × (given ≡ reply_to before command)
-  choose None e = (cc, cc)
-  choose (Some why) e = cc
+-- what a command that came whole has left and given back
+came : (before after : Pools) (command : Cmd) (given : Reply) → Answers command before after (answer.Done given) → Leaves before before command after × Replies [] before command given
+came before after command given effect = let whole = came-whole before after command given effect in (whole.1, whole.2)
 
 plain-versions : (given : Cmd) (path : List ℕ) → plain given ≡ cmd.Versions path → given ≡ cmd.Versions path
 plain-versions cmd.Sets path e = cc
 plain-versions (cmd.Versions p) path e = e
 plain-versions (cmd.Holds p name) path e = cc
+plain-versions (cmd.Snapshot p name) path e = cc
 plain-versions (cmd.Hold kind job p name) path e = cc
 plain-versions (cmd.Release kind job p name) path e = cc
 plain-versions (cmd.Bookmark p version name) path e = cc
 plain-versions (cmd.DestroySnap p name) path e = cc
 plain-versions (cmd.DestroyMark p name) path e = cc
+plain-versions (cmd.Create p) path e = cc
 plain-versions (cmd.Transfer transfer) path e = cc
+plain-versions (cmd.Abort p) path e = cc
 
 plain-destroy : (given : Cmd) (path name : List ℕ) → plain given ≡ cmd.DestroySnap path name → given ≡ cmd.DestroySnap path name
 plain-destroy cmd.Sets path name e = cc
 plain-destroy (cmd.Versions p) path name e = cc
 plain-destroy (cmd.Holds p n) path name e = cc
+plain-destroy (cmd.Snapshot p n) path name e = cc
 plain-destroy (cmd.Hold kind job p n) path name e = cc
 plain-destroy (cmd.Release kind job p n) path name e = cc
 plain-destroy (cmd.Bookmark p version n) path name e = cc
 plain-destroy (cmd.DestroySnap p n) path name e = e
 plain-destroy (cmd.DestroyMark p n) path name e = cc
+plain-destroy (cmd.Create p) path name e = cc
 plain-destroy (cmd.Transfer transfer) path name e = cc
+plain-destroy (cmd.Abort p) path name e = cc
 
 -- a listing that was done shows the rows of its moment, and leaves the pools
 listed : (before after : Pools) (path : List ℕ) (given : Reply) → AnswersWords (cmd.Versions path) before after (answer.Done given) → (after ≡ before) × (given ≡ reply.Versions (rows_at before path))
-listed before after path given (inl answers) = stepped before after (cmd.Versions path) given answers
+listed before after path given (inl answers) = came before after (cmd.Versions path) given answers
 listed before after path given (inr (other, is_given, answers)) =
     let same = plain-versions other path is_given.same_words in
     let By : Cmd → Type 0 = λ c. Answers c before after (answer.Done given) in
-    stepped before after (cmd.Versions path) given (subst By same answers)
+    came before after (cmd.Versions path) given (subst By same answers)
 
 -- a destroy that was done takes its snapshot
 destroyed : (before after : Pools) (path name : List ℕ) (given : Reply) → AnswersWords (cmd.DestroySnap path name) before after (answer.Done given) → after ≡ with_set before path (without (Snap name))
-destroyed before after path name given (inl answers) = (stepped before after (cmd.DestroySnap path name) given answers).0
+destroyed before after path name given (inl answers) = (came before after (cmd.DestroySnap path name) given answers).0
 destroyed before after path name given (inr (other, is_given, answers)) =
     let same = plain-destroy other path name is_given.same_words in
     let By : Cmd → Type 0 = λ c. Answers c before after (answer.Done given) in
-    (stepped before after (cmd.DestroySnap path name) given (subst By same answers)).0
+    (came before after (cmd.DestroySnap path name) given (subst By same answers)).0
 
 -- the turn was done
 abbrev pub IsDone : Turn → Type 0

@@ -1,4 +1,4 @@
-use Rattle.std.proofs.Common.{◌≡◌, ◌≢◌, ◌||◌, ℕ, ◌+◌, ◌-◌, ◌<◌, Bool, true, false, not, List, [], ◌∷◌, ◌++◌, Option, Some, None, find, map, length, get_or, refl, ap, sym, subst, arith, ◌∙◌, All, reverse}
+use Rattle.std.proofs.Common.{◌≡◌, ◌≢◌, ◌||◌, ℕ, ◌+◌, ◌-◌, ◌<◌, Bool, true, false, not, List, [], ◌∷◌, ◌++◌, Option, Some, None, find, map, length, get_or, refl, ap, sym, subst, arith, ◌∙◌, All, inl, inr, reverse}
 use Rattle.std.specs.Bool.{if◌then◌else◌}
 use Rattle.std.specs.Cmp.Lexicographic.{bytes_decides, nat_list_cmp_total, slice_cmp}
 use Rattle.std.specs.Ordering.{nat_cmp, is_lt, ordering_reverse}
@@ -16,7 +16,7 @@ use Rattle.zr_command.specs.declared.command.Cmd.{Cmd}
 use Rattle.zr_command.specs.declared.command.Cmd.TheVariants as cmd
 use Rattle.zr_command.specs.declared.command.Transfer.{Transfer}
 use Rattle.zr_world.specs.declared.effects.Refusal.{Refusal}
-use Rattle.zr_world.specs.declared.effects.Refusal.TheVariants.{NoSuch, Exists, TagThere, NotNewest, HasPartial, Spent}
+use Rattle.zr_world.specs.declared.effects.Refusal.TheVariants.{NoSuch, Exists, TagThere, NotNewest, HasPartial, NoPartial, Spent}
 use Rattle.zr_world.specs.declared.pools.Dataset.{Dataset}
 use Rattle.zr_world.specs.declared.pools.Pools.{Pools}
 use Rattle.zr_world.specs.declared.pools.Version.{Version}
@@ -25,16 +25,16 @@ use Rattle.zr_command.specs.declared.version.VersionName.TheVariants.{Snap, Mark
 use Rattle.zr_names.specs.declared.unit.Guid.{Guid}
 use Rattle.zr_command.specs.declared.version.VersionRow.{VersionRow}
 use Rattle.zr_world.specs.Answering.{IsReplyTo}
-use Rattle.zr_world.specs.Effect.{after_since, bookmark_of, bookmarked, part_of, partial_of, put_in, received, reply_to, set_before, transferred, with_partial, with_set, with_target, with_version, without_tag}
-use Rattle.zr_world.specs.Lookup.{dataset_at, has_guid, has_name, is_at, is_snapshot, newest, tags_at, version_at}
+use Rattle.zr_world.specs.Effect.{aborted, Aborts, after_since, bookmark_of, bookmarked, first_receive_at, Leaves, new_set, part_of, partial_of, received, reply_to, snapshotted, taken, transferred, with_new, with_partial, with_set, with_tags, with_target, with_version, without_set, without_tag}
+use Rattle.zr_world.specs.Lookup.{dataset_at, has_guid, has_name, in_first_receive, is_at, is_snapshot, newest, parent_at, tags_at, version_at}
 use Rattle.zr_command.specs.Kinds.{names_snap}
 use Rattle.zr_command.specs.Names.{is_below, is_tagged, same_name}
 use Rattle.zr_command.specs.Listings.{stands_before, IsSetList, IsVersionList}
 use Rattle.zr_world.specs.Pools.{IsWellFormed, IsWellFormedSet, MarkIsFree}
-use Rattle.zr_world.specs.Reasons.{first_that_applies, full_reasons, increment_reasons, is_spent, refusal, reasons, source_reasons, target_reasons}
+use Rattle.zr_world.specs.Reasons.{are_spent, first_that_applies, full_reasons, increment_reasons, is_spent, reasons, refusal_since, source_reasons, target_reasons}
 use Rattle.zr_world.specs.Rows.{row_of_set, row_of_version}
 use Rattle.zr_world.proofs.Keeping.{found-none, found-passes}
-use Rattle.zr_world.proofs.WellFormed.{added-keeps, arrived-keeps, fewer-differ, later-keeps, more-differ, partial-keeps, removal-keeps, tags-keep, tags_at-differ, version_at-All, TagsDiffer}
+use Rattle.zr_world.proofs.WellFormed.{added-keeps, arrived-keeps, fewer-differ, later-keeps, more-differ, partial-keeps, partial_gone-keeps, placeholder-keeps, removal-keeps, tags-keep, tags_at-differ, version_at-All, TagsDiffer, without_set-keeps}
 
 -- where no reason applies, neither does the first
 pub none-first : (b : Bool) (why : Refusal) (more : List (Bool × Refusal)) → first_that_applies ((b, why) ∷ more) ≡ None → (b ≡ false) × (first_that_applies more ≡ None)
@@ -73,7 +73,7 @@ version_at-name pools path name version found = by-set (dataset_at pools path) f
 -- the next transaction group is changed before or after the target
 bumped : (pools : Pools) (path : List ℕ) (change : Dataset → Dataset) (next : ℕ) → record (with_target pools path change) { next_txg = next } ≡ with_target (record pools { next_txg = next }) path change
 bumped pools path change next = choose (is_some (dataset_at pools path)) where
-  choose : (b : Bool) → record (if b then with_set pools path change else record pools { sets = put_in set_before (change (record { path = path; placeholder = false; partial = None; versions = [] })) pools.sets }) { next_txg = next } ≡ (if b then with_set (record pools { next_txg = next }) path change else record pools { sets = put_in set_before (change (record { path = path; placeholder = false; partial = None; versions = [] })) pools.sets; next_txg = next })
+  choose : (b : Bool) → record (if b then with_set pools path change else with_new pools (change (new_set path))) { next_txg = next } ≡ (if b then with_set (record pools { next_txg = next }) path change else with_new (record pools { next_txg = next }) (change (new_set path)))
   choose true = refl
   choose false = refl
 
@@ -83,15 +83,28 @@ received-keeps pools target version none snapshot formed =
     let next : Pools = record pools { next_txg = pools.next_txg + 1 } in
     let free : MarkIsFree (received pools.next_txg version) = λ marked. refl in
     subst IsWellFormed (sym (bumped pools target (with_version (received pools.next_txg version)) (pools.next_txg + 1)))
-    (arrived-keeps next target (received pools.next_txg version) none (AllPairs-nil (λ (a : List ℕ) (b : List ℕ). a ≢ b)) free (omega arith) (later-keeps pools formed))
+    (arrived-keeps next target (received pools.next_txg version) none (AllPairs-nil (λ (a : List ℕ) (b : List ℕ). a ≢ b)) free (omega arith) (later-keeps pools pools.next_guid formed))
 
-transfer-keeps : (pools : Pools) (transfer : Transfer) → version_at pools transfer.target (Snap transfer.to) ≡ None → IsWellFormed pools → IsWellFormed (transferred pools transfer (version_at pools transfer.source (Snap transfer.to)))
-transfer-keeps pools transfer none formed = choose (version_at pools transfer.source (Snap transfer.to)) refl where
-  choose : (found : Option Version) → version_at pools transfer.source (Snap transfer.to) ≡ found → IsWellFormed (transferred pools transfer found)
+transfer-keeps : (earlier pools : Pools) (transfer : Transfer) → version_at pools transfer.target (Snap transfer.to) ≡ None → IsWellFormed pools → IsWellFormed (transferred pools transfer (version_at earlier transfer.source (Snap transfer.to)))
+transfer-keeps earlier pools transfer none formed = choose (version_at earlier transfer.source (Snap transfer.to)) refl where
+  choose : (found : Option Version) → version_at earlier transfer.source (Snap transfer.to) ≡ found → IsWellFormed (transferred pools transfer found)
   choose None is = formed
   choose (Some version) is =
-      let name = version_at-name pools transfer.source transfer.to version is in
+      let name = version_at-name earlier transfer.source transfer.to version is in
       received-keeps pools transfer.target version (ap (version_at pools transfer.target) name ∙ none) (ap names_snap name) formed
+
+-- a snapshot of a new name is taken in a new transaction group
+snapshot-keeps : (pools : Pools) (path name : List ℕ) → version_at pools path (Snap name) ≡ None → IsWellFormed pools → IsWellFormed (snapshotted pools path name)
+snapshot-keeps pools path name none formed =
+    let next : Pools = record pools { next_txg = pools.next_txg + 1; next_guid = pools.next_guid + 1 } in
+    added-keeps next path (taken pools name) none (AllPairs-nil (λ (a : List ℕ) (b : List ℕ). a ≢ b)) (λ marked. cc) (omega arith) (later-keeps pools (pools.next_guid + 1) formed)
+
+-- the pools after an abort
+abort-keeps : (pools after : Pools) (path : List ℕ) → Aborts pools path after → IsWellFormed pools → IsWellFormed after
+abort-keeps pools after path aborts formed = elim aborts [
+  | inl stays ↦ subst IsWellFormed (sym stays) (partial_gone-keeps pools path formed)
+  | inr goes ↦ subst IsWellFormed (sym goes.1) (without_set-keeps pools path formed)
+]
 
 all-reversed : {T : Type 0} (P : T → Type 0) (xs : List T) → All P (reverse xs) → All P xs
 all-reversed {T} P xs each = λ k d inside.
@@ -100,7 +113,7 @@ all-reversed {T} P xs each = λ k d inside.
     let back = ap (λ (ys : List T). get_or ys k d) (reverse-reverse xs) in
     subst P (sym at ∙ back) (each (length (reverse xs) - 1 - k) d (omega arith))
 
-none-found : {T : Type 0} (test : T → Bool) (xs : List T) → All (λ x. test x ≡ false) xs → find test xs ≡ None
+pub none-found : {T : Type 0} (test : T → Bool) (xs : List T) → All (λ x. test x ≡ false) xs → find test xs ≡ None
 none-found test [] each = refl
 none-found {T} test (x ∷ xs) each =
     let first : test x ≡ false = All-head (λ (y : T). test y ≡ false) x xs each in
@@ -157,45 +170,88 @@ arrival-new pools transfer base.Full e = full-new pools transfer e
 arrival-new pools transfer (base.From mark guid) e =
     increment-new pools transfer guid (dataset_at pools transfer.target) e
 
--- a command that is not refused leaves well-formed pools well formed
-pub after-keeps : (pools : Pools) (command : Cmd) → refusal pools command ≡ None → IsWellFormed pools → IsWellFormed (after_since pools pools command)
-after-keeps pools cmd.Sets allowed formed = formed
-after-keeps pools (cmd.Versions path) allowed formed = formed
-after-keeps pools (cmd.Holds path name) allowed formed = formed
-after-keeps pools (cmd.Hold kind job path name) allowed formed =
-    let tag = tag_text kind job in
-    let none = is_none (version_at pools path (Snap name)) in
+-- what `apply` leaves after an abort is what an abort may leave
+aborted-aborts : (pools : Pools) (path : List ℕ) → Aborts pools path (aborted pools path)
+aborted-aborts pools path = choose (first_receive_at pools path) refl where
+  choose : (b : Bool) → first_receive_at pools path ≡ b → Aborts pools path (if b then without_set pools path else with_set pools path (with_partial None))
+  choose true is = inr (is, refl)
+  choose false is = inl refl
+
+-- what the table leaves is what a command may leave
+pub table-leaves : (earlier pools : Pools) (command : Cmd) → Leaves earlier pools command (after_since earlier pools command)
+table-leaves earlier pools cmd.Sets = refl
+table-leaves earlier pools (cmd.Versions path) = refl
+table-leaves earlier pools (cmd.Holds path name) = refl
+table-leaves earlier pools (cmd.Snapshot path name) = refl
+table-leaves earlier pools (cmd.Hold kind job path name) = refl
+table-leaves earlier pools (cmd.Release kind job path name) = refl
+table-leaves earlier pools (cmd.Bookmark path version mark) = refl
+table-leaves earlier pools (cmd.DestroySnap path name) = refl
+table-leaves earlier pools (cmd.DestroyMark path mark) = refl
+table-leaves earlier pools (cmd.Create path) = refl
+table-leaves earlier pools (cmd.Transfer transfer) = refl
+table-leaves earlier pools (cmd.Abort path) = aborted-aborts pools path
+
+hold-whole : (pools : Pools) (path name tag : List ℕ) → first_that_applies ((is_none (version_at pools path (Snap name)), NoSuch) ∷ (is_tagged (tags_at pools path (Snap name)) tag, TagThere) ∷ []) ≡ None → IsWellFormed pools → IsWellFormed (with_set pools path (with_tags (Snap name) (tags_at pools path (Snap name) ++ tag ∷ [])))
+hold-whole pools path name tag allowed formed =
     let held = is_tagged (tags_at pools path (Snap name)) tag in
-    let one = none-first none NoSuch ((held, TagThere) ∷ []) allowed in
+    let one = none-first (is_none (version_at pools path (Snap name))) NoSuch ((held, TagThere) ∷ []) allowed in
     let two = none-first held TagThere [] one.1 in
     tags-keep pools path name (tags_at pools path (Snap name) ++ tag ∷ []) (hold-keeps pools path name tag two.0 formed) formed
-after-keeps pools (cmd.Release kind job path name) allowed formed =
+
+-- where nothing of this kind is found there, the second reason does not apply
+second-none : {T : Type 0} (first : Bool) (found : Option T) (why other : Refusal) (more : List (Bool × Refusal)) → first_that_applies ((first, why) ∷ (is_some found, other) ∷ more) ≡ None → found ≡ None
+second-none first found why other more allowed =
+    let one = none-first first why ((is_some found, other) ∷ more) allowed in
+    let two = none-first (is_some found) other more one.1 in
+    nothing-there found two.0
+
+first-none : {T : Type 0} (found : Option T) (why : Refusal) (more : List (Bool × Refusal)) → first_that_applies ((is_some found, why) ∷ more) ≡ None → found ≡ None
+first-none found why more allowed = nothing-there found (none-first (is_some found) why more allowed).0
+
+-- a command that is not refused leaves well-formed pools well formed
+pub after-keeps : (earlier pools after : Pools) (command : Cmd) → refusal_since earlier pools command ≡ None → Leaves earlier pools command after → IsWellFormed pools → IsWellFormed after
+after-keeps earlier pools after cmd.Sets allowed leaves formed = subst IsWellFormed (sym leaves) formed
+after-keeps earlier pools after (cmd.Versions path) allowed leaves formed = subst IsWellFormed (sym leaves) formed
+after-keeps earlier pools after (cmd.Holds path name) allowed leaves formed = subst IsWellFormed (sym leaves) formed
+after-keeps earlier pools after (cmd.Snapshot path name) allowed leaves formed =
+    let none = second-none (is_none (dataset_at pools path)) (version_at pools path (Snap name)) NoSuch Exists ((are_spent pools, Spent) ∷ []) allowed in
+    subst IsWellFormed (sym leaves) (snapshot-keeps pools path name none formed)
+after-keeps earlier pools after (cmd.Hold kind job path name) allowed leaves formed =
+    subst IsWellFormed (sym leaves) (hold-whole pools path name (tag_text kind job) allowed formed)
+after-keeps earlier pools after (cmd.Release kind job path name) allowed leaves formed =
     let tag = tag_text kind job in
-    tags-keep pools path name (without_tag tag (tags_at pools path (Snap name))) (fewer-differ tag (tags_at pools path (Snap name)) (tags_at-differ pools path (Snap name) formed)) formed
-after-keeps pools (cmd.Bookmark path version mark) allowed formed =
-    let none = is_none (version_at pools path version) in
-    let there = is_some (version_at pools path (Mark mark)) in
-    let one = none-first none NoSuch ((there, Exists) ∷ []) allowed in
-    let two = none-first there Exists [] one.1 in
-    bookmark-keeps pools path mark version (nothing-there (version_at pools path (Mark mark)) two.0) formed
-after-keeps pools (cmd.DestroySnap path name) allowed formed = removal-keeps pools path (Snap name) formed
-after-keeps pools (cmd.DestroyMark path mark) allowed formed = removal-keeps pools path (Mark mark) formed
-after-keeps pools (cmd.Transfer transfer) allowed formed =
-    let behind = reasons-behind (source_reasons pools (cmd.Transfer transfer)) (reasons pools (cmd.Transfer transfer)) allowed in
-    transfer-keeps pools transfer (arrival-new pools transfer transfer.base behind) formed
+    subst IsWellFormed (sym leaves) (tags-keep pools path name (without_tag tag (tags_at pools path (Snap name))) (fewer-differ tag (tags_at pools path (Snap name)) (tags_at-differ pools path (Snap name) formed)) formed)
+after-keeps earlier pools after (cmd.Bookmark path version mark) allowed leaves formed =
+    let none = second-none (is_none (version_at pools path version)) (version_at pools path (Mark mark)) NoSuch Exists [] allowed in
+    subst IsWellFormed (sym leaves) (bookmark-keeps pools path mark version none formed)
+after-keeps earlier pools after (cmd.DestroySnap path name) allowed leaves formed =
+    subst IsWellFormed (sym leaves) (removal-keeps pools path (Snap name) formed)
+after-keeps earlier pools after (cmd.DestroyMark path mark) allowed leaves formed =
+    subst IsWellFormed (sym leaves) (removal-keeps pools path (Mark mark) formed)
+after-keeps earlier pools after (cmd.Create path) allowed leaves formed =
+    let none = first-none (dataset_at pools path) Exists ((is_none (parent_at pools path), NoSuch) ∷ (option_map_or in_first_receive (parent_at pools path) false, HasPartial) ∷ []) allowed in
+    subst IsWellFormed (sym leaves) (placeholder-keeps pools path none formed)
+after-keeps earlier pools after (cmd.Transfer transfer) allowed leaves formed =
+    let behind = reasons-behind (source_reasons earlier (cmd.Transfer transfer)) (reasons pools (cmd.Transfer transfer)) allowed in
+    subst IsWellFormed (sym leaves) (transfer-keeps earlier pools transfer (arrival-new pools transfer transfer.base behind) formed)
+after-keeps earlier pools after (cmd.Abort path) allowed leaves formed = abort-keeps pools after path leaves formed
 
 -- so does a part of it
 pub part-keeps : (pools : Pools) (command : Cmd) → IsWellFormed pools → IsWellFormed (part_of pools command)
 part-keeps pools cmd.Sets formed = formed
 part-keeps pools (cmd.Versions path) formed = formed
 part-keeps pools (cmd.Holds path name) formed = formed
+part-keeps pools (cmd.Snapshot path name) formed = formed
 part-keeps pools (cmd.Hold kind job path name) formed = formed
 part-keeps pools (cmd.Release kind job path name) formed = formed
 part-keeps pools (cmd.Bookmark path version mark) formed = formed
 part-keeps pools (cmd.DestroySnap path name) formed = formed
 part-keeps pools (cmd.DestroyMark path mark) formed = formed
+part-keeps pools (cmd.Create path) formed = formed
 part-keeps pools (cmd.Transfer transfer) formed =
-    partial-keeps pools transfer.target (with_partial (partial_of transfer)) (λ set. refl) (λ set. refl) formed
+    partial-keeps pools transfer.target (with_partial (Some (partial_of transfer))) (λ set. refl) (λ set. refl) formed
+part-keeps pools (cmd.Abort path) formed = formed
 
 not-below-itself : (o : Ordering) → o ≡ ordering_reverse o → is_lt o ≡ true → ⊥
 not-below-itself Less e lt = cc
@@ -203,7 +259,7 @@ not-below-itself Equal e lt = cc
 not-below-itself Greater e lt = cc
 
 -- names in rising order differ
-below-differs : (a b : List ℕ) → is_below a b ≡ true → a ≢ b
+pub below-differs : (a b : List ℕ) → is_below a b ≡ true → a ≢ b
 below-differs a b below same =
     let at : List ℕ → Type 0 = λ c. is_below a c ≡ true in
     not-below-itself (slice_cmp nat_cmp a a) (nat_list_cmp_total.antisymm a a) (subst at (sym same) below)
@@ -233,9 +289,12 @@ pub reply-fits : (pools : Pools) (command : Cmd) → IsWellFormed pools → IsRe
 reply-fits pools cmd.Sets formed = sets-list pools formed
 reply-fits pools (cmd.Versions path) formed = versions-list-at pools path (dataset_at pools path) refl formed
 reply-fits pools (cmd.Holds path name) formed = tags_at-differ pools path (Snap name) formed
+reply-fits pools (cmd.Snapshot path name) formed = tt
 reply-fits pools (cmd.Hold kind job path name) formed = tt
 reply-fits pools (cmd.Release kind job path name) formed = tt
 reply-fits pools (cmd.Bookmark path version mark) formed = tt
 reply-fits pools (cmd.DestroySnap path name) formed = tt
 reply-fits pools (cmd.DestroyMark path mark) formed = tt
+reply-fits pools (cmd.Create path) formed = tt
 reply-fits pools (cmd.Transfer transfer) formed = tt
+reply-fits pools (cmd.Abort path) formed = tt

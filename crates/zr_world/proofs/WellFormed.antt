@@ -12,7 +12,7 @@ use Rattle.zr_world.specs.declared.pools.Pools.{Pools}
 use Rattle.zr_world.specs.declared.pools.Version.{Version}
 use Rattle.zr_command.specs.declared.version.VersionName.{VersionName}
 use Rattle.zr_command.specs.declared.version.VersionName.TheVariants.{Snap, Mark}
-use Rattle.zr_world.specs.Effect.{put_in, new_set, set_before, version_before, with_set, with_tags, with_target, with_version, without, without_tag}
+use Rattle.zr_world.specs.Effect.{new_placeholder, new_set, put_in, set_before, version_before, with_new, with_partial, with_set, with_tags, with_target, with_version, without, without_set, without_tag}
 use Rattle.zr_world.specs.Lookup.{dataset_at, has_name, is_at, tags_at, version_at}
 use Rattle.zr_command.specs.Names.{is_below, is_tagged, same_name, same_text}
 use Rattle.zr_command.specs.Listings.{stands_before}
@@ -102,7 +102,7 @@ absent-path path set other same =
     cc
 
 -- the pools stay well formed with one dataset more at a path at which none stands
-make_set-keeps : (pools : Pools) (set : Dataset) → dataset_at pools set.path ≡ None → IsWellFormedSet pools.next_txg set → IsWellFormed pools → IsWellFormed (record pools { sets = put_in set_before set pools.sets })
+make_set-keeps : (pools : Pools) (set : Dataset) → dataset_at pools set.path ≡ None → IsWellFormedSet pools.next_txg set → IsWellFormed pools → IsWellFormed (with_new pools set)
 make_set-keeps pools set none new formed =
     let absent = found-none (is_at set.path) pools.sets none in
     record {
@@ -113,7 +113,7 @@ make_set-keeps pools set none new formed =
 -- the pools stay well formed where the target of a transfer is changed so that it stays so, and made before where it is absent
 pub with_target-keeps : (pools : Pools) (path : List ℕ) (change : Dataset → Dataset) → ((set : Dataset) → (change set).path ≡ set.path) → ((set : Dataset) → dataset_at pools path ≡ Some set → IsWellFormedSet pools.next_txg set → IsWellFormedSet pools.next_txg (change set)) → (dataset_at pools path ≡ None → IsWellFormedSet pools.next_txg (change (new_set path))) → IsWellFormed pools → IsWellFormed (with_target pools path change)
 with_target-keeps pools path change same keeps new formed = choose (dataset_at pools path) refl where
-  choose : (found : Option Dataset) → dataset_at pools path ≡ found → IsWellFormed (if is_some found then with_set pools path change else record pools { sets = put_in set_before (change (new_set path)) pools.sets })
+  choose : (found : Option Dataset) → dataset_at pools path ≡ found → IsWellFormed (if is_some found then with_set pools path change else with_new pools (change (new_set path)))
   choose (Some set) is = with_set-keeps pools path change same keeps formed
   choose None is =
       make_set-keeps pools (change (new_set path)) (ap (dataset_at pools) (same (new_set path)) ∙ is) (new is) formed
@@ -189,6 +189,37 @@ new_set-formed next path = record {
   made_before = All-nil (λ (v : Version). v.txg < next);
 }
 
+-- a placeholder is made at a path at which no dataset stands
+pub placeholder-keeps : (pools : Pools) (path : List ℕ) → dataset_at pools path ≡ None → IsWellFormed pools → IsWellFormed (with_new pools (new_placeholder path))
+placeholder-keeps pools path none formed =
+    let empty = new_set-formed pools.next_txg path in
+    make_set-keeps pools (new_placeholder path) none (record {
+      in_order = empty.in_order;
+      names_differ = empty.names_differ;
+      tags_differ = empty.tags_differ;
+      marks_free = empty.marks_free;
+      made_before = empty.made_before;
+    }) formed
+
+-- a dataset goes away
+pub without_set-keeps : (pools : Pools) (path : List ℕ) → IsWellFormed pools → IsWellFormed (without_set pools path)
+without_set-keeps pools path formed = record {
+  rising = AllPairs-filter (λ (a : Dataset) (b : Dataset). is_below a.path b.path ≡ true) (λ set. not (is_at path set)) pools.sets formed.rising;
+  each = All-filter (λ set. not (is_at path set)) (IsWellFormedSet pools.next_txg) pools.sets formed.each;
+}
+
+-- a partial receive goes away
+pub partial_gone-keeps : (pools : Pools) (path : List ℕ) → IsWellFormed pools → IsWellFormed (with_set pools path (with_partial None))
+partial_gone-keeps pools path formed =
+    with_set-keeps pools path (with_partial None) (λ set. refl)
+    (λ set found set_formed. record {
+      in_order = set_formed.in_order;
+      names_differ = set_formed.names_differ;
+      tags_differ = set_formed.tags_differ;
+      marks_free = set_formed.marks_free;
+      made_before = set_formed.made_before;
+    }) formed
+
 -- a version of a new name arrives on the target
 pub arrived-keeps : (pools : Pools) (path : List ℕ) (version : Version) → version_at pools path version.name ≡ None → TagsDiffer version.tags → MarkIsFree version → version.txg < pools.next_txg → IsWellFormed pools → IsWellFormed (with_target pools path (with_version version))
 arrived-keeps pools path version none differ free made formed =
@@ -207,9 +238,9 @@ partial-keeps pools path change same_path same_versions formed =
     } in
     with_target-keeps pools path change same_path (λ set found set_formed. moved set set_formed) (λ absent. moved (new_set path) (new_set-formed pools.next_txg path)) formed
 
--- the next transaction group may be later
-pub later-keeps : (pools : Pools) → IsWellFormed pools → IsWellFormed (record pools { next_txg = pools.next_txg + 1 })
-later-keeps pools formed = record {
+-- the next transaction group may be later, and the next guid another one
+pub later-keeps : (pools : Pools) (guid : ℕ) → IsWellFormed pools → IsWellFormed (record pools { next_txg = pools.next_txg + 1; next_guid = guid })
+later-keeps pools guid formed = record {
   rising = formed.rising;
   each = λ k d inside.
       let set_formed = formed.each k d inside in

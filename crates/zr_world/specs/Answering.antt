@@ -1,6 +1,6 @@
-use Rattle.std.specs.Prelude.{◌≡◌, ◌≢◌, ◌≤◌, ℕ, Bool, true, false, List, [], ◌∷◌, ◌++◌, Option, Some, None, ⊤, ◌⊎◌, AllPairs}
+use Rattle.std.specs.Prelude.{◌≡◌, ◌≢◌, ◌≤◌, ℕ, Bool, true, false, List, [], ◌∷◌, ◌++◌, Option, Some, None, Ok, ⊤, ◌⊎◌, AllPairs}
 use Rattle.zr_base.specs.Count.{Rose}
-use Rattle.zr_world.specs.declared.effects.Extent.{Extent}
+use Rattle.zr_world.specs.declared.effects.Extent.TheVariants as extent
 use Rattle.zr_command.specs.declared.command.Answer.{Answer}
 use Rattle.zr_command.specs.declared.command.Answer.TheVariants.{Done, Failed, Garbled, NoMemory}
 use Rattle.zr_command.specs.declared.command.Cmd.{Cmd}
@@ -9,7 +9,7 @@ use Rattle.zr_command.specs.declared.command.Entry.{Entry}
 use Rattle.zr_command.specs.declared.command.Entry.TheVariants.{Call}
 use Rattle.zr_command.specs.declared.command.Reply.TheVariants as reply
 use Rattle.zr_world.specs.declared.pools.Pools.{Pools}
-use Rattle.zr_world.specs.Effect.{Effect, step, go}
+use Rattle.zr_world.specs.Effect.{Effect, MayCome}
 use Rattle.zr_command.specs.Plain.{plain}
 use Rattle.zr_command.specs.Listings.{IsSetList, IsVersionList}
 use Rattle.zr_world.specs.Reasons.{first_that_applies, source_reasons}
@@ -42,11 +42,11 @@ Logs before now command NoMemory =
     (now ≡ before) ⊎ ((answer : Answer) × (now ≡ appended before (Call command answer ∷ [])))
 Logs before now command answer = now ≡ appended before (Call command answer ∷ [])
 
--- the answer rule: `Done` says that the whole effect came, with the rows of that moment; after every
+-- the answer rule, where nothing else runs: `Done` says that the whole effect came, and what it gave back; after every
 -- other answer the command may have had any extent
 abbrev pub Answers : Cmd → Pools → Pools → Answer → Type 0
-Answers command before after (Done reply) = step before command ≡ go after reply
-Answers command before after answer = (some : Extent) × Effect before command some after
+Answers command before after (Done given) = Effect [] before command extent.Whole after (Ok given)
+Answers command before after answer = MayCome [] before command after
 
 -- a transfer's words name no guids: the command that they give on these pools has the same words, and its guids are
 -- those that stand on the source
@@ -72,12 +72,15 @@ abbrev pub IsReplyTo : Cmd → Answer → Type 0
 IsReplyTo cmd.Sets (Done (reply.Sets rows)) = IsSetList rows
 IsReplyTo (cmd.Versions path) (Done (reply.Versions rows)) = IsVersionList rows
 IsReplyTo (cmd.Holds path name) (Done (reply.Holds tags)) = AllPairs (λ a b. a ≢ b) tags
+IsReplyTo (cmd.Snapshot path name) (Done reply.Nothing) = ⊤
 IsReplyTo (cmd.Hold kind job path name) (Done reply.Nothing) = ⊤
 IsReplyTo (cmd.Release kind job path name) (Done reply.Nothing) = ⊤
 IsReplyTo (cmd.Bookmark path version mark) (Done reply.Nothing) = ⊤
 IsReplyTo (cmd.DestroySnap path name) (Done reply.Nothing) = ⊤
 IsReplyTo (cmd.DestroyMark path mark) (Done reply.Nothing) = ⊤
+IsReplyTo (cmd.Create path) (Done reply.Nothing) = ⊤
 IsReplyTo (cmd.Transfer transfer) (Done reply.Nothing) = ⊤
+IsReplyTo (cmd.Abort path) (Done reply.Nothing) = ⊤
 IsReplyTo cmd.Sets (Garbled line) = ⊤
 IsReplyTo (cmd.Versions path) (Garbled line) = ⊤
 IsReplyTo (cmd.Holds path name) (Garbled line) = ⊤

@@ -3,6 +3,7 @@ use Rattle.std.specs.List.{list_any}
 use Rattle.std.specs.Option.{option_and_then, option_map_or}
 use Rattle.zr_names.specs.declared.unit.Guid.{Guid}
 use Rattle.zr_world.specs.declared.pools.Dataset.{Dataset}
+use Rattle.zr_world.specs.declared.pools.Partial.{Partial}
 use Rattle.zr_world.specs.declared.pools.Pools.{Pools}
 use Rattle.zr_world.specs.declared.pools.Version.{Version}
 use Rattle.zr_command.specs.declared.version.VersionName.{VersionName}
@@ -60,3 +61,7 @@ parent_at pools path = find (is_parent path) pools.sets
 -- a dataset is in its first receive: it has a partial receive, no snapshot and no placeholder flag
 abbrev pub in_first_receive : Dataset → Bool
 in_first_receive set = is_some set.partial && is_none (newest set) && not set.placeholder
+
+-- the partial receive of the dataset at this path
+abbrev pub partial_at : Pools → List ℕ → Option Partial
+partial_at pools path = option_and_then (λ set. set.partial) (dataset_at pools path)

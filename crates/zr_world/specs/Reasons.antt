@@ -8,11 +8,11 @@ use Rattle.zr_command.specs.declared.command.Cmd.{Cmd}
 use Rattle.zr_command.specs.declared.command.Cmd.TheVariants as cmd
 use Rattle.zr_command.specs.declared.command.Transfer.{Transfer}
 use Rattle.zr_world.specs.declared.effects.Refusal.{Refusal}
-use Rattle.zr_world.specs.declared.effects.Refusal.TheVariants.{NoSuch, Exists, Held, TagThere, TagMissing, NotNewest, HasPartial, Spent}
+use Rattle.zr_world.specs.declared.effects.Refusal.TheVariants.{NoSuch, Exists, Held, TagThere, TagMissing, NotNewest, HasPartial, NoPartial, Spent}
 use Rattle.zr_world.specs.declared.pools.Dataset.{Dataset}
 use Rattle.zr_world.specs.declared.pools.Pools.{Pools}
 use Rattle.zr_command.specs.declared.version.VersionName.TheVariants.{Snap, Mark}
-use Rattle.zr_world.specs.Lookup.{dataset_at, has_guid, in_first_receive, newest, parent_at, stands, tags_at, version_at}
+use Rattle.zr_world.specs.Lookup.{dataset_at, has_guid, in_first_receive, newest, parent_at, partial_at, stands, tags_at, version_at}
 use Rattle.zr_command.specs.Names.{is_tagged}
 
 -- the refusal whose condition is the first that applies
@@ -23,6 +23,10 @@ first_that_applies (reason ∷ more) = if reason.0 then Some reason.1 else first
 -- no transaction group is left
 abbrev pub is_spent : Pools → Bool
 is_spent pools = pools.next_txg == (2 ^ 64 - 1)
+
+-- no transaction group is left, or no guid
+abbrev pub are_spent : Pools → Bool
+are_spent pools = is_spent pools || (pools.next_guid == (2 ^ 64 - 1))
 
 abbrev pub base_reasons : Pools → Transfer → Base → List (Bool × Refusal)
 base_reasons pools transfer base.Full = []
@@ -67,6 +71,10 @@ abbrev pub reasons : Pools → Cmd → List (Bool × Refusal)
 reasons pools cmd.Sets = []
 reasons pools (cmd.Versions path) = (is_none (dataset_at pools path), NoSuch) ∷ []
 reasons pools (cmd.Holds path name) = (is_none (version_at pools path (Snap name)), NoSuch) ∷ []
+reasons pools (cmd.Snapshot path name) =
+    (is_none (dataset_at pools path), NoSuch)
+    ∷ (is_some (version_at pools path (Snap name)), Exists)
+    ∷ (are_spent pools, Spent) ∷ []
 reasons pools (cmd.Hold kind job path name) =
     (is_none (version_at pools path (Snap name)), NoSuch)
     ∷ (is_tagged (tags_at pools path (Snap name)) (tag_text kind job), TagThere) ∷ []
@@ -80,7 +88,14 @@ reasons pools (cmd.DestroySnap path name) =
     (is_none (version_at pools path (Snap name)), NoSuch)
     ∷ (not (length (tags_at pools path (Snap name)) == 0), Held) ∷ []
 reasons pools (cmd.DestroyMark path mark) = (is_none (version_at pools path (Mark mark)), NoSuch) ∷ []
+reasons pools (cmd.Create path) =
+    (is_some (dataset_at pools path), Exists)
+    ∷ (is_none (parent_at pools path), NoSuch)
+    ∷ (option_map_or in_first_receive (parent_at pools path) false, HasPartial) ∷ []
 reasons pools (cmd.Transfer transfer) = target_reasons pools transfer transfer.base
+reasons pools (cmd.Abort path) =
+    (is_none (dataset_at pools path), NoSuch)
+    ∷ (is_none (partial_at pools path), NoPartial) ∷ []
 
 -- why a command is refused, where its sending end looks at the source at an earlier moment
 abbrev pub refusal_since : Pools → Pools → Cmd → Option Refusal

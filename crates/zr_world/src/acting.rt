@@ -17,7 +17,7 @@ pub fn act(
     plan: Option<Extent>,
 ) -> Answer
     ensures cause { HasCause faults.old faults.new result }
-    ensures answer { Answers cmd.now pools.old pools.new result }
+    ensures answer { IsWellFormed pools.old → Answers cmd.now pools.old pools.new result }
     ensures well_formed { IsWellFormed pools.old → IsWellFormed pools.new }
     ensures shape { IsWellFormed pools.old → IsReplyTo cmd.now result }
     ensures legible { is_garbled result ≡ false }
@@ -34,7 +34,7 @@ pub fn act(
 /// The command comes as far as the extent says, and is answered as failed.
 fn fail(alloc: Global, pools: &mut Pools, faults: &mut u64, cmd: &Cmd, extent: Extent) -> Answer
     ensures cause { HasCause faults.old faults.new result }
-    ensures answer { Answers cmd.now pools.old pools.new result }
+    ensures answer { IsWellFormed pools.old → Answers cmd.now pools.old pools.new result }
     ensures well_formed { IsWellFormed pools.old → IsWellFormed pools.new }
     ensures failed { result ≡ Answer.Failed }
 {
@@ -46,7 +46,7 @@ fn fail(alloc: Global, pools: &mut Pools, faults: &mut u64, cmd: &Cmd, extent: E
 /// The command comes whole, unless it is refused.
 fn succeed(alloc: Global, pools: &mut Pools, faults: &mut u64, cmd: &Cmd) -> Answer
     ensures cause { HasCause faults.old faults.new result }
-    ensures answer { Answers cmd.now pools.old pools.new result }
+    ensures answer { IsWellFormed pools.old → Answers cmd.now pools.old pools.new result }
     ensures well_formed { IsWellFormed pools.old → IsWellFormed pools.new }
     ensures shape { IsWellFormed pools.old → IsReplyTo cmd.now result }
     ensures legible { is_garbled result ≡ false }

@@ -1,6 +1,6 @@
 ghost use Rattle.std.specs.Prelude.{◌≡◌, OnErr, OnOk, ◌≤◌, filter, length, not, position};
 ghost use Rattle.std.specs.List.{position_or_len};
-ghost use Rattle.zr_world.specs.Effect.{first_changed, put_in, set_before, version_before, with_partial, with_set, with_tags, with_version, without};
+ghost use Rattle.zr_world.specs.Effect.{first_changed, put_in, set_before, version_before, with_new, with_partial, with_set, with_tags, with_version, without, without_set};
 ghost use Rattle.zr_world.specs.Lookup.{has_name, is_at};
 ghost use Rattle.zr_command.specs.declared.version.VersionName.TheVariants.{Snap};
 
@@ -86,6 +86,13 @@ fn retain_others(versions: &mut Vec<Version>, name: &VersionName)
     versions.retain(|version| !version.has_name(name));
 }
 
+/// Takes the dataset at this path out of a list of datasets.
+fn retain_elsewhere(sets: &mut Vec<Dataset>, path: &Path)
+    ensures { sets.new.items ≡ filter (λ set. not (is_at path.now set)) sets.old.items }
+{
+    sets.retain(|set| set.path != *path);
+}
+
 /// Gives the snapshot of this name other tags.
 fn replace_tags(versions: &mut [Version], name: &SnapName, tags: Rows<Tag>)
     ensures { versions.new ≡
@@ -168,14 +175,14 @@ fn tags_in(alloc: Global, sets: &mut [Dataset], path: &Path, name: &SnapName, ta
     set.set_tags(alloc, name, tags);
 }
 
-fn partial_in(sets: &mut [Dataset], path: &Path, partial: Partial)
+fn partial_in(sets: &mut [Dataset], path: &Path, partial: Option<Partial>)
     ensures { sets.new ≡
         first_changed (is_at path.now) (with_partial partial) sets.old }
 {
     let Some(place) = place_of(sets, path) else {
         return;
     };
-    sets[place].partial = Some(partial);
+    sets[place].partial = partial;
 }
 
 /// Adds a version to the dataset at this path.
@@ -218,8 +225,8 @@ pub(crate) fn change_tags(
     pools.sets = Rows::from_vec(sets);
 }
 
-/// Leaves a partial receive on the dataset at this path.
-pub(crate) fn set_partial(alloc: Global, pools: &mut Pools, path: &Path, partial: Partial)
+/// Leaves this partial receive, or none, on the dataset at this path.
+pub(crate) fn set_partial(alloc: Global, pools: &mut Pools, path: &Path, partial: Option<Partial>)
     ensures { pools.new ≡ with_set pools.old path.now (with_partial partial) }
 {
     let mut sets = mem::replace(&mut pools.sets, Rows::new(alloc)).into_vec();
@@ -229,12 +236,20 @@ pub(crate) fn set_partial(alloc: Global, pools: &mut Pools, path: &Path, partial
 
 /// Makes a dataset.
 pub(crate) fn make_set(alloc: Global, pools: &mut Pools, set: Dataset) -> Result<(), NoMemory>
-    ensures ok { OnOk result
-        (pools.new ≡ record pools.old { sets = put_in set_before set pools.old.sets }) }
+    ensures ok { OnOk result (pools.new ≡ with_new pools.old set) }
     ensures err { OnErr result (pools.new ≡ pools.old) }
 {
     let mut sets = mem::replace(&mut pools.sets, Rows::new(alloc)).into_vec();
     let made = insert_set(&mut sets, set);
     pools.sets = Rows::from_vec(sets);
     made
+}
+
+/// Takes the dataset at this path away.
+pub(crate) fn remove_set(alloc: Global, pools: &mut Pools, path: &Path)
+    ensures { pools.new ≡ without_set pools.old path.now }
+{
+    let mut sets = mem::replace(&mut pools.sets, Rows::new(alloc)).into_vec();
+    retain_elsewhere(&mut sets, path);
+    pools.sets = Rows::from_vec(sets);
 }

@@ -1,14 +1,14 @@
 ghost use Rattle.std.specs.Prelude.{◌≡◌, ◌++◌, ◌∷◌, [], None, false, IfOk, OnOk, OnErr, map, option_map};
 ghost use Rattle.std.specs.Option.{option_map_or};
 ghost use Rattle.zr_names.specs.Marks.{tag_text};
-ghost use Rattle.zr_world.specs.Effect.{after_since, Applies, bookmarked, part_of, received, reply_to, step_at, with_target, with_version, without_tag};
+ghost use Rattle.zr_world.specs.Effect.{aborted, after_since, Applies, bookmarked, new_placeholder, part_of, received, reply_to, snapshotted, step_at, with_new, with_target, with_version, without_tag};
 ghost use Rattle.zr_world.specs.Lookup.{dataset_at, tags_at, version_at};
-ghost use Rattle.zr_world.specs.Reasons.{is_spent, refusal};
+ghost use Rattle.zr_world.specs.Reasons.{are_spent, is_spent, refusal};
 ghost use Rattle.zr_world.specs.Rows.{row_of_set, row_of_version};
 ghost use Rattle.zr_command.specs.declared.command.Cmd.TheVariants as cmd;
 ghost use Rattle.zr_command.specs.declared.version.VersionName.TheVariants.{Snap};
 
-use crate::changes::{add_version, change_tags, make_set, remove_version, set_partial};
+use crate::changes::{add_version, change_tags, make_set, remove_set, remove_version, set_partial};
 use crate::pools::{Dataset, Partial, Pools, Version};
 use crate::reasons::{is_of, refusal, tags_at};
 use std::alloc::Global;
@@ -43,7 +43,9 @@ pub enum Refusal {
     NotNewest,
     /// The target, or its parent in its first receive, has a partial receive.
     HasPartial,
-    /// No transaction group is left.
+    /// The dataset has no partial receive.
+    NoPartial,
+    /// No transaction group, or no guid, is left.
     Spent,
 }
 
@@ -108,12 +110,15 @@ fn reply(alloc: Global, pools: &Pools, cmd: &Cmd) -> Result<Reply, NoMemory>
             Ok(Reply::Versions(version_rows(alloc, versions_at(pools, path))?))
         }
         Cmd::Holds(path, name) => Ok(Reply::Holds(same_items(alloc, tags_at(pools, path, name))?)),
-        Cmd::Hold(_, _, _, _)
+        Cmd::Snapshot(_, _)
+        | Cmd::Hold(_, _, _, _)
         | Cmd::Release(_, _, _, _)
         | Cmd::Bookmark(_, _, _)
         | Cmd::DestroySnap(_, _)
         | Cmd::DestroyMark(_, _)
-        | Cmd::Transfer(_) => Ok(Reply::Nothing),
+        | Cmd::Create(_)
+        | Cmd::Transfer(_)
+        | Cmd::Abort(_) => Ok(Reply::Nothing),
     }
 }
 
@@ -156,6 +161,19 @@ fn tags_without(
     let mut tags = same_items(alloc, tags_at(pools, path, name))?.into_vec();
     retain_others(&mut tags, kind, job);
     Ok(Rows::from_vec(tags))
+}
+
+/// Takes a snapshot of a dataset.
+fn snapshot(alloc: Global, pools: &mut Pools, path: &Path, name: &SnapName) -> Result<(), NoMemory>
+    requires unspent { are_spent pools.old ≡ false }
+    ensures ok { OnOk result (pools.new ≡ snapshotted pools.old path.now name.now) }
+    ensures err { OnErr result (pools.new ≡ pools.old) }
+{
+    let version = pools.taken(alloc, name)?;
+    add_version(alloc, pools, path, version)?;
+    pools.next_txg += 1;
+    pools.next_guid += 1;
+    Ok(())
 }
 
 /// Puts the hold of a job on a snapshot.
@@ -264,7 +282,7 @@ fn leave_partial(alloc: Global, pools: &mut Pools, transfer: &Transfer) -> Resul
 {
     let partial = Partial::of(transfer)?;
     if pools.dataset(&transfer.target).is_some() {
-        set_partial(alloc, pools, &transfer.target, partial);
+        set_partial(alloc, pools, &transfer.target, Some(partial));
         return Ok(());
     }
     let mut set = Dataset::new(alloc, transfer.target.same()?);
@@ -272,7 +290,28 @@ fn leave_partial(alloc: Global, pools: &mut Pools, transfer: &Transfer) -> Resul
     make_set(alloc, pools, set)
 }
 
-/// Does a whole command that is not refused, unless it is a transfer.
+/// Makes a placeholder.
+fn create(alloc: Global, pools: &mut Pools, path: &Path) -> Result<(), NoMemory>
+    ensures ok { OnOk result (pools.new ≡ with_new pools.old (new_placeholder path.now)) }
+    ensures err { OnErr result (pools.new ≡ pools.old) }
+{
+    let set = Dataset::placeholder(alloc, path.same()?);
+    make_set(alloc, pools, set)
+}
+
+/// Gives up the partial receive of a dataset. A dataset that stands by it alone goes with it, as where the last part of
+/// its first receive goes.
+fn abort(alloc: Global, pools: &mut Pools, path: &Path)
+    ensures { pools.new ≡ aborted pools.old path.now }
+{
+    if pools.in_first_receive(path) {
+        remove_set(alloc, pools, path);
+    } else {
+        set_partial(alloc, pools, path, None);
+    }
+}
+
+/// Does a whole command that is not refused.
 fn change(alloc: Global, pools: &mut Pools, cmd: &Cmd) -> Result<(), NoMemory>
     requires allowed { refusal pools.old cmd.now ≡ None }
     ensures ok { OnOk result (pools.new ≡ after_since pools.old pools.old cmd.now) }
@@ -280,6 +319,7 @@ fn change(alloc: Global, pools: &mut Pools, cmd: &Cmd) -> Result<(), NoMemory>
 {
     match cmd {
         Cmd::Sets | Cmd::Versions(_) | Cmd::Holds(_, _) => Ok(()),
+        Cmd::Snapshot(path, name) => snapshot(alloc, pools, path, name),
         Cmd::Hold(kind, job, path, name) => hold(alloc, pools, *kind, job, path, name),
         Cmd::Release(kind, job, path, name) => release(alloc, pools, *kind, job, path, name),
         Cmd::Bookmark(path, version, mark) => bookmark(alloc, pools, path, version, mark),
@@ -291,7 +331,12 @@ fn change(alloc: Global, pools: &mut Pools, cmd: &Cmd) -> Result<(), NoMemory>
             remove_version(alloc, pools, path, &VersionName::Mark(mark.same()?));
             Ok(())
         }
+        Cmd::Create(path) => create(alloc, pools, path),
         Cmd::Transfer(asked) => transfer(alloc, pools, asked),
+        Cmd::Abort(path) => {
+            abort(alloc, pools, path);
+            Ok(())
+        }
     }
 }
 
@@ -317,11 +362,14 @@ fn part(alloc: Global, pools: &mut Pools, cmd: &Cmd) -> Result<(), NoMemory>
         Cmd::Sets
         | Cmd::Versions(_)
         | Cmd::Holds(_, _)
+        | Cmd::Snapshot(_, _)
         | Cmd::Hold(_, _, _, _)
         | Cmd::Release(_, _, _, _)
         | Cmd::Bookmark(_, _, _)
         | Cmd::DestroySnap(_, _)
-        | Cmd::DestroyMark(_, _) => Ok(()),
+        | Cmd::DestroyMark(_, _)
+        | Cmd::Create(_)
+        | Cmd::Abort(_) => Ok(()),
     }
 }
 

@@ -202,7 +202,7 @@ impl Version {
 impl Dataset {
     ghost use Rattle.std.specs.Prelude.{◌≡◌, IfOk, find};
     ghost use Rattle.std.specs.Option.{option_copied};
-    ghost use Rattle.zr_world.specs.Effect.{new_set};
+    ghost use Rattle.zr_world.specs.Effect.{new_placeholder, new_set};
     ghost use Rattle.zr_world.specs.Lookup.{has_name, in_first_receive, newest};
     ghost use Rattle.zr_world.specs.Rows.{row_of_set};
     ghost use Rattle.zr_command.specs.declared.version.VersionName.TheVariants.{Mark, Snap};
@@ -214,6 +214,18 @@ impl Dataset {
         Dataset {
             path,
             placeholder: false,
+            partial: None,
+            versions: Rows::new(alloc),
+        }
+    }
+
+    /// A dataset without versions, as it is made to stand above the targets of transfers.
+    pub fn placeholder(alloc: Global, path: Path) -> Dataset
+        ensures { result ≡ new_placeholder path }
+    {
+        Dataset {
+            path,
+            placeholder: true,
             partial: None,
             versions: Rows::new(alloc),
         }
@@ -300,8 +312,9 @@ fn is_parent(set: &Dataset, path: &[u8]) -> bool
 }
 
 impl Pools {
-    ghost use Rattle.std.specs.Prelude.{◌≡◌};
+    ghost use Rattle.std.specs.Prelude.{◌≡◌, IfOk};
     ghost use Rattle.std.specs.Option.{option_copied};
+    ghost use Rattle.zr_world.specs.Effect.{first_receive_at, taken};
     ghost use Rattle.zr_world.specs.Lookup.{dataset_at, parent_at, version_at};
     ghost use Rattle.zr_command.specs.declared.version.VersionName.TheVariants.{Mark, Snap};
 
@@ -318,6 +331,29 @@ impl Pools {
     {
         let path = path.as_bytes();
         self.sets.as_slice().iter().find(|set| is_parent(set, path))
+    }
+
+    /// Whether the dataset at this path is in its first receive.
+    pub fn in_first_receive(&self, path: &Path) -> bool
+        ensures { result ≡ first_receive_at self.entry.now path.now }
+    {
+        match self.dataset(path) {
+            Some(set) => set.in_first_receive(),
+            None => false,
+        }
+    }
+
+    /// A snapshot that is taken now.
+    pub fn taken(&self, alloc: Global, name: &SnapName) -> Result<Version, AllocError>
+        ensures { IfOk result (λ version. version ≡ taken self.entry.now name.now) }
+    {
+        Ok(Version {
+            name: VersionName::Snap(name.same()?),
+            guid: Guid(self.next_guid),
+            txg: self.next_txg,
+            creation: self.now,
+            tags: Rows::new(alloc),
+        })
     }
 
     /// A snapshot of the dataset at this path.

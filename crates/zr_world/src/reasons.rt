@@ -3,7 +3,7 @@ ghost use Rattle.std.specs.Option.{option_copied, option_map_or};
 ghost use Rattle.zr_names.specs.Marks.{tag_text};
 ghost use Rattle.zr_world.specs.Lookup.{has_guid, tags_at, version_at};
 ghost use Rattle.zr_command.specs.Names.{is_tagged, same_text};
-ghost use Rattle.zr_world.specs.Reasons.{first_that_applies, full_reasons, increment_reasons, is_spent, reasons, refusal, source_reasons, target_reasons};
+ghost use Rattle.zr_world.specs.Reasons.{first_that_applies, are_spent, full_reasons, increment_reasons, is_spent, reasons, refusal, source_reasons, target_reasons};
 ghost use Rattle.zr_command.specs.declared.command.Cmd.TheVariants as cmd;
 ghost use Rattle.zr_world.specs.declared.effects.Refusal.TheVariants.{NoSuch, Spent};
 ghost use Rattle.zr_command.specs.declared.version.VersionName.TheVariants.{Snap};
@@ -51,6 +51,12 @@ fn is_spent(pools: &Pools) -> bool
     ensures { result ≡ is_spent pools.entry.now }
 {
     pools.next_txg == u64::MAX
+}
+
+fn are_spent(pools: &Pools) -> bool
+    ensures { result ≡ are_spent pools.entry.now }
+{
+    is_spent(pools) || pools.next_guid == u64::MAX
 }
 
 /// Why a sending end refuses.
@@ -183,6 +189,52 @@ fn bookmark_refusal(
     }
 }
 
+/// Why a snapshot is not taken.
+fn snapshot_refusal(pools: &Pools, path: &Path, name: &SnapName) -> Option<Refusal>
+    ensures { result ≡
+        first_that_applies (reasons pools.entry.now (cmd.Snapshot path.now name.now)) }
+{
+    if pools.dataset(path).is_none() {
+        return Some(Refusal::NoSuch);
+    }
+    if pools.snap(path, name).is_some() {
+        return Some(Refusal::Exists);
+    }
+    if are_spent(pools) {
+        Some(Refusal::Spent)
+    } else {
+        None
+    }
+}
+
+/// Why a placeholder is not made.
+fn create_refusal(pools: &Pools, path: &Path) -> Option<Refusal>
+    ensures { result ≡ first_that_applies (reasons pools.entry.now (cmd.Create path.now)) }
+{
+    if pools.dataset(path).is_some() {
+        return Some(Refusal::Exists);
+    }
+    let Some(parent) = pools.parent(path) else {
+        return Some(Refusal::NoSuch);
+    };
+    if parent.in_first_receive() {
+        Some(Refusal::HasPartial)
+    } else {
+        None
+    }
+}
+
+/// Why an abort is refused.
+fn abort_refusal(pools: &Pools, path: &Path) -> Option<Refusal>
+    ensures { result ≡ first_that_applies (reasons pools.entry.now (cmd.Abort path.now)) }
+{
+    match pools.dataset(path) {
+        None => Some(Refusal::NoSuch),
+        Some(set) if set.partial.is_none() => Some(Refusal::NoPartial),
+        Some(_) => None,
+    }
+}
+
 /// Why a command is refused, the first reason that applies.
 pub(crate) fn refusal(pools: &Pools, cmd: &Cmd) -> Option<Refusal>
     ensures { result ≡ refusal pools.entry.now cmd.now }
@@ -191,6 +243,7 @@ pub(crate) fn refusal(pools: &Pools, cmd: &Cmd) -> Option<Refusal>
         Cmd::Sets => None,
         Cmd::Versions(path) => unless_there(pools.dataset(path).is_some()),
         Cmd::Holds(path, name) => unless_there(pools.snap(path, name).is_some()),
+        Cmd::Snapshot(path, name) => snapshot_refusal(pools, path, name),
         Cmd::Hold(kind, job, path, name) => {
             let held = is_tagged(tags_at(pools, path, name), *kind, job);
             unless_snap(pools, path, name, held, Refusal::TagThere)
@@ -205,8 +258,10 @@ pub(crate) fn refusal(pools: &Pools, cmd: &Cmd) -> Option<Refusal>
             unless_snap(pools, path, name, held, Refusal::Held)
         }
         Cmd::DestroyMark(path, mark) => unless_there(pools.mark(path, mark).is_some()),
+        Cmd::Create(path) => create_refusal(pools, path),
         Cmd::Transfer(transfer) => {
             source_refusal(pools, transfer).or_else(|| target_refusal(pools, transfer))
         }
+        Cmd::Abort(path) => abort_refusal(pools, path),
     }
 }

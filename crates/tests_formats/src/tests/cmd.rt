@@ -19,6 +19,12 @@ release zrepl_last_received_J_nightly tank/home@z_1 => release last nightly tank
 # words of destroys
 destroy tank/home@z_1 => destroy tank/home @z_1
 destroy tank/home#m => destroy tank/home #m
+# words of a snapshot, and of a placeholder
+snapshot tank/home@z_1 => snapshot tank/home @z_1
+create -o zrepl:placeholder=on -o mountpoint=none b/c => create b/c
+# abort_is_receive_minus_A
+receive -A b/c/tank/a => abort b/c/tank/a
+build abort b/c/tank/a => /sbin/zfs receive -A b/c/tank/a
 # words of bookmarks
 bookmark tank/home@s tank/home#n => bookmark tank/home @s #n
 bookmark tank/home#m tank/home#n => bookmark tank/home #m #n
@@ -28,6 +34,8 @@ build versions tank/home => /sbin/zfs list -H -p -d 1 -t snapshot,bookmark -s cr
 build holds tank/home z_1 => /sbin/zfs holds -H tank/home@z_1
 build hold tank/home z_1 step nightly => /sbin/zfs hold zrepl_STEP_J_nightly tank/home@z_1
 build release tank/home z_1 last nightly => /sbin/zfs release zrepl_last_received_J_nightly tank/home@z_1
+build snapshot tank/home z_1 => /sbin/zfs snapshot tank/home@z_1
+build create b/c => /sbin/zfs create -o zrepl:placeholder=on -o mountpoint=none b/c
 build destroy tank/home @z_1 => /sbin/zfs destroy tank/home@z_1
 build destroy tank/home #m => /sbin/zfs destroy tank/home#m
 build bookmark tank/home @s n => /sbin/zfs bookmark tank/home@s tank/home#n
@@ -80,6 +88,16 @@ destroy tank@s@t => bad word 1
 destroy tank#m@s => bad word 1
 destroy tank@a tank@b => bad word 2
 destroy tank#m x => bad word 2
+snapshot => bad word 1
+snapshot tank => bad word 1
+snapshot tank#m => bad word 1
+snapshot tank@a tank@b => bad word 2
+create => bad word 1
+create b => bad word 1
+create -o zrepl:placeholder=off -o mountpoint=none b => bad word 2
+create -o zrepl:placeholder=on -o mountpoint=none => bad word 5
+create -o zrepl:placeholder=on -o mountpoint=none b@s => bad word 5
+create -o zrepl:placeholder=on -o mountpoint=none b c => bad word 6
 hold => bad word 1
 hold x tank@s => bad word 1
 hold zrepl_STEP_J_ tank@s => bad word 1
@@ -111,6 +129,10 @@ send -i a#m a@s x => bad word 4
 receive => bad word 1
 receive -u -s a => bad word 1
 receive -s -u => bad word 3
+receive -A => bad word 2
+receive -A a@s => bad word 2
+receive -A a b => bad word 3
+receive -s -A a => bad word 2
 receive -s -u a@s => bad word 3
 receive -s -u a b => bad word 4
 receive -s -u -F a//b => bad word 4
@@ -227,8 +249,11 @@ fn cmd_text(alloc: Global, cmd: &Cmd) -> Result<String, Unread> {
         Cmd::Sets => text(alloc, "sets"),
         Cmd::Versions(set) => Ok(format!(in alloc; "versions {}", shown(set.as_bytes()))?),
         Cmd::Holds(set, snap) => named(alloc, "holds", set, '@', snap.as_bytes()),
+        Cmd::Snapshot(set, snap) => named(alloc, "snapshot", set, '@', snap.as_bytes()),
         Cmd::DestroySnap(set, snap) => named(alloc, "destroy", set, '@', snap.as_bytes()),
         Cmd::DestroyMark(set, mark) => named(alloc, "destroy", set, '#', mark.as_bytes()),
+        Cmd::Create(set) => Ok(format!(in alloc; "create {}", shown(set.as_bytes()))?),
+        Cmd::Abort(set) => Ok(format!(in alloc; "abort {}", shown(set.as_bytes()))?),
         _ => change_text(alloc, cmd),
     }
 }

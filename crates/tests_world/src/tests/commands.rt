@@ -99,6 +99,16 @@ now 200 txg 50 guid 50;back;tank @a:11:11:100 @b:12:12:100;
 5 told, the last zfs list -H -p -d 1 -t snapshot,bookmark -s createtxg -o name,guid,createtxg,creation,userrefs back/tank: done [back/tank@a~11~50~100~1$back/tank@b~12~51~100~0$]
 now 200 txg 52 guid 50;=;back/tank @a:11:50:100[zrepl_last_received_J_j] @b:12:51:100;tank @a:11:11:100 #zrepl_CURSOR_G_000000000000000b_J_j:11:11:100 @b:12:12:100;
 
+a_placeholder_is_made_and_a_snapshot_taken_and_a_receive_given_up
+now 200 txg 50 guid 50;back;tank @a:11:11:100 @b:12:12:100;
+  create back/p => done
+  snapshot tank c => done
+  part send tank a 11 full back/p/tank => failed
+  abort back/p/tank => done
+  abort back/p/tank => failed
+5 told, the last zfs receive -A back/p/tank: nonzero []
+now 200 txg 51 guid 51;=;back/p placeholder;tank @a:11:11:100 @b:12:12:100 @c:50:50:200;
+
 a_failed_transfer_may_have_come_at_any_extent
 now 200 txg 50 guid 50;back;tank @a:11:11:100 @b:12:12:100;
   none send tank a 11 full back/tank => failed

@@ -40,6 +40,55 @@ now 9000 txg 100 guid 500;back placeholder partial 11 none tank;cut partial 18 1
   holds tank b => done = / done = / [zrepl_STEP_J_push,x,zrepl_last_received_J_push] =
   destroy tank @a => done = / done = / done =;=;=;tank #a:11:1:1011 @b:12:2:1012[zrepl_STEP_J_push,x,zrepl_last_received_J_push] #b:12:2:1012 @c:13:3:1013[zrepl_STEP_J_push];
 
+a_snapshot_has_the_next_guid_and_transaction_group
+now 9000 txg 100 guid 500;back placeholder partial 11 none tank;
+  snapshot back a => done = / done = / done now 9000 txg 101 guid 501;back placeholder partial 11 none tank @a:500:100:9000;=;
+  snapshot tank d => done = / done = / done now 9000 txg 101 guid 501;=;tank @a:11:1:1011 #a:11:1:1011 @b:12:2:1012[zrepl_STEP_J_push,x,zrepl_last_received_J_push] #b:12:2:1012 @c:13:3:1013[zrepl_STEP_J_push] @d:500:100:9000;
+
+a_snapshot_takes_the_last_guid_and_transaction_group_but_one
+now 9000 txg 18446744073709551614 guid 18446744073709551614;
+  snapshot tank d => done = / done = / done now 9000 txg 18446744073709551615 guid 18446744073709551615;tank @a:11:1:1011 #a:11:1:1011 @b:12:2:1012[zrepl_STEP_J_push,x,zrepl_last_received_J_push] #b:12:2:1012 @c:13:3:1013[zrepl_STEP_J_push] @d:18446744073709551614:18446744073709551614:9000;
+
+snapshots_are_refused_for_the_first_reason
+now 9000 txg 18446744073709551615 guid 500;
+  snapshot none a => NoSuch =
+  snapshot tank a => Exists =
+  snapshot tank d => Spent =
+
+snapshots_are_refused_for_the_first_reason: no guid is left
+now 9000 txg 100 guid 18446744073709551615;
+  snapshot none a => NoSuch =
+  snapshot tank a => Exists =
+  snapshot tank d => Spent =
+
+placeholders_are_made_in_the_order_of_paths
+now 9000 txg 18446744073709551615 guid 18446744073709551615;back;back/cut partial 12 11 tank @a:11:30:1011;back/place placeholder partial 11 none tank;
+  create back/new => done = / done = / done =;=;=;back/new placeholder;=;=;
+  create back/cut/new => done = / done = / done =;=;=;back/cut/new placeholder;=;=;
+  create back/place/new => done = / done = / done =;=;=;=;back/place/new placeholder;=;
+  create tank/a => done = / done = / done =;=;=;=;=;tank/a placeholder;
+
+placeholders_are_refused_for_the_first_reason
+now 9000 txg 100 guid 500;back;back/first partial 11 none tank;
+  create tank => Exists =
+  create back/first => Exists =
+  create new => NoSuch =
+  create none/new => NoSuch =
+  create back/none/new => NoSuch =
+  create back/first/new => HasPartial =
+
+an_abort_takes_the_partial_receive
+now 9000 txg 18446744073709551615 guid 18446744073709551615;back/cut partial 12 11 tank @a:11:30:1011;back/first partial 11 none tank #m:11:40:1011;back/place placeholder partial 11 none tank;
+  abort back/cut => done = / done = / done =;back/cut @a:11:30:1011;=;=;=;
+  abort back/first => done = / done = / done =;=;=;=;
+  abort back/place => done = / done = / done =;=;=;back/place placeholder;=;
+
+aborts_are_refused_for_the_first_reason
+now 9000 txg 100 guid 500;back placeholder;
+  abort none => NoSuch =
+  abort back => NoPartial =
+  abort tank => NoPartial =
+
 commands_are_refused_for_the_first_reason
 now 9000 txg 100 guid 500;back;back/behind @b:12:20:1012 #n:13:21:1013;back/cut partial 12 11 tank @a:11:30:1011;back/first partial 11 none tank;back/old @a:11:30:1011;back/place placeholder;back/twice @c:99:31:1099 @b:12:32:1012;
   versions tank/none => NoSuch =
@@ -153,6 +202,7 @@ fn reason(why: Refusal) -> &'static str {
         Refusal::TagMissing => "TagMissing",
         Refusal::NotNewest => "NotNewest",
         Refusal::HasPartial => "HasPartial",
+        Refusal::NoPartial => "NoPartial",
         Refusal::Spent => "Spent",
     }
 }

@@ -1,4 +1,4 @@
-use Rattle.std.proofs.Common.{◌≡◌, List, ap, inl, inr, subst, sym}
+use Rattle.std.proofs.Common.{◌≡◌, List, Ok, ap, inl, inr, subst, sym}
 use Rattle.zr_command.specs.declared.command.Answer.{Answer}
 use Rattle.zr_command.specs.declared.command.Answer.TheVariants.{Done, Failed, Garbled, NoMemory}
 use Rattle.zr_command.specs.declared.command.Cmd.{Cmd}
@@ -6,13 +6,12 @@ use Rattle.zr_command.specs.declared.command.Entry.{Entry}
 use Rattle.zr_world.specs.declared.effects.Extent.TheVariants as extent
 use Rattle.zr_world.specs.declared.pools.Pools.{Pools}
 use Rattle.zr_world.specs.Answering.{Answers, AnswersWords}
-use Rattle.zr_world.specs.Effect.{left_by}
 use Rattle.zr_world.specs.Mem.{Recorded}
 use Rattle.zr_world.proofs.mem.MemZfsZfs.run.Goals as goal
 
 -- what was answered may be answered as want of memory
 short : (command : Cmd) (before after : Pools) (answer : Answer) → Answers command before after answer → Answers command before after NoMemory
-short command before after (Done reply) does = (extent.Whole, ap (left_by before) (sym does))
+short command before after (Done given) does = (extent.Whole, Ok given, does)
 short command before after Failed does = does
 short command before after (Garbled line) does = does
 short command before after NoMemory does = does
@@ -27,4 +26,4 @@ answers-recorded command shown before old after history now answer given same do
 
 pub returns-clause-pools : goal.returns-clause-pools
 returns-clause-pools c =
-    answers-recorded _ _ _ _ _ _ _ _ _ (ap (λ m. m.pools) c.self.view_is) c.act-answer.ensures.answer c.recorded.ensures
+    answers-recorded _ _ _ _ _ _ _ _ _ (ap (λ m. m.pools) c.self.view_is) (c.act-answer.ensures.answer c.self.invariant) c.recorded.ensures
