@@ -288,7 +288,8 @@ fn push_with_path(
     texts: &[&str],
     path: &Path,
 ) -> Result<(), AllocError>
-    ensures words { OnOk result (words.new ≡ words.old ++ (map (λ text. text.now) texts.now ++ path.now ∷ [])) }
+    ensures words { OnOk result
+        (words.new ≡ words.old ++ (map (λ text. text.now) texts.now ++ path.now ∷ [])) }
     ensures named { OnOk result (IsPath path.now) }
 {
     words.push_all(alloc, texts)?;

@@ -1,4 +1,4 @@
-use Rattle.std.proofs.Common.{◌≡◌, ℕ, List, Ok, Option, Some, None, inl, inr, ap, refl, sym, subst}
+use Rattle.std.proofs.Common.{◌≡◌, ℕ, ◌+◌, ◌-◌, ◌^◌, drop, min, List, Ok, Option, Some, None, inl, inr, refl, sym, subst}
 use Rattle.zr_cmd.specs.Words.{receive_of, send_of, Spells}
 use Rattle.zr_cmd.specs.declared.forms.ZfsCall.{ZfsCall}
 use Rattle.zr_cmd.specs.declared.forms.ZfsCall.TheVariants as call
@@ -9,10 +9,13 @@ use Rattle.zr_exec.specs.declared.spawn.RunExit.{RunExit}
 use Rattle.zr_exec.specs.declared.spawn.RunExit.TheVariants.{NoMemory}
 use Rattle.zr_model.specs.Piping.{AreEnds, FindsOne}
 use Rattle.zr_exec.specs.Serving.{Does, DoesPipe, DoesTransfer, DoesWords, PipeGives}
-use Rattle.zr_model.specs.Ends.{EndsUnplanned}
 use Rattle.zr_exec.proofs.Answers.{does_short}
 use Rattle.zr_exec.proofs.Commands.{one_call, one_command}
-use Rattle.zr_model.specs.Stored.{IsRecorded, IsRecordedPipe}
+use Rattle.zr_exec.specs.Exits.{is_child_fault, is_pipe_fault}
+use Rattle.zr_model.specs.Ends.{EndsWords, PipeEnds}
+use Rattle.zr_model.specs.Stored.{IsRecorded, IsRecordedPipe, RanChild, RanPipe, Stored}
+use Rattle.zr_world.specs.Planned.{planned_at, risen_if}
+use Rattle.zr_world.specs.declared.effects.Extent.{Extent}
 use Rattle.zr_command.specs.declared.command.Cmd.{Cmd}
 use Rattle.zr_command.specs.declared.command.Reply.TheVariants as reply
 use Rattle.zr_command.specs.declared.command.Transfer.{Transfer}
@@ -66,11 +69,6 @@ pipe_recorded send all_send receive all_receive noted_send noted_receive before 
       | inr lost ↦ subst (DoesPipe send receive before after) (sym lost.1) (pipe-short send receive before after exit does)
     ])))
 
--- how a child may end that does the command that its words spell
-pub unplanned_spelled : (words : List (List ℕ)) (command given : Cmd) (before : Pools) (exit : RunExit) → Spells words (call.One command) → EndsUnplanned command before exit → Spells words (call.One given) → EndsUnplanned given before exit
-unplanned_spelled words command given before exit spelled ends other =
-    subst (λ (c : Cmd). EndsUnplanned c before exit) (one_command words command given spelled other) ends
-
 -- a pipe whose words spell no call at one of its ends gives no transfer
 pub unsent : (send receive : List (List ℕ)) (pools : Pools) (transfer : Transfer) → ((given : ZfsCall) → Spells send given → ⊥) → PipeGives send receive pools transfer → ⊥
 unsent send receive pools transfer none gives = none (send_of transfer) gives.spelled.sends
@@ -92,3 +90,22 @@ found_gives send receive pools sends receives (Some transfer) sent received ends
   };
   stands = ends.stands;
 }
+
+-- what a runner in memory did with a child, put together
+pub child-ran : (inside before : Stored) (argv words : List (List ℕ)) (plan : Option Extent) (calls faults : ℕ) (pools : Pools) (history : List Line) (exit given : RunExit) (written shown : List ℕ) → inside ≡ before → calls ≡ min (inside.calls + 1) (2 ^ 64 - 1) → plan ≡ planned_at inside.failing calls → words ≡ drop 1 argv → EndsWords plan words inside.pools pools exit written → faults ≡ risen_if (is_child_fault exit) inside.faults → shown ≡ written → IsRecorded inside.history history argv exit shown given → RanChild before argv (record { pools = pools; failing = inside.failing; calls = calls; faults = faults; history = history }) given written
+child-ran inside before argv words plan calls faults pools history exit given written shown same counted planned behind ends risen shows recorded =
+    let after : Stored = record { pools = pools; failing = inside.failing; calls = calls; faults = faults; history = history } in
+    let by_plan = subst (λ (p : Option Extent). EndsWords p words inside.pools pools exit written) planned ends in
+    let by_words = subst (λ (ws : List (List ℕ)). EndsWords (planned_at inside.failing calls) ws inside.pools pools exit written) behind by_plan in
+    subst (λ (b : Stored). RanChild b argv after given written) same
+    (record { exit = exit; calls_are = counted; plan_is = refl; ends = by_words; faults_are = risen; recorded = subst (λ (w : List ℕ). IsRecorded inside.history history argv exit w given) shows recorded })
+
+-- and with a pipe
+pub pair-ran : (inside before : Stored) (send receive sends receives : List (List ℕ)) (plan : Option Extent) (calls faults : ℕ) (pools : Pools) (history : List Line) (exit given : PipeExit) → inside ≡ before → calls ≡ min (inside.calls + 1) (2 ^ 64 - 1) → plan ≡ planned_at inside.failing calls → sends ≡ drop 1 send → receives ≡ drop 1 receive → PipeEnds plan sends receives inside.pools pools exit → faults ≡ risen_if (is_pipe_fault exit) inside.faults → IsRecordedPipe inside.history history send receive exit given → RanPipe before send receive (record { pools = pools; failing = inside.failing; calls = calls; faults = faults; history = history }) given
+pair-ran inside before send receive sends receives plan calls faults pools history exit given same counted planned behind_send behind_receive ends risen recorded =
+    let after : Stored = record { pools = pools; failing = inside.failing; calls = calls; faults = faults; history = history } in
+    let by_plan = subst (λ (p : Option Extent). PipeEnds p sends receives inside.pools pools exit) planned ends in
+    let by_send = subst (λ (ws : List (List ℕ)). PipeEnds (planned_at inside.failing calls) ws receives inside.pools pools exit) behind_send by_plan in
+    let by_both = subst (λ (ws : List (List ℕ)). PipeEnds (planned_at inside.failing calls) (drop 1 send) ws inside.pools pools exit) behind_receive by_send in
+    subst (λ (b : Stored). RanPipe b send receive after given) same
+    (record { exit = exit; calls_are = counted; plan_is = refl; ends = by_both; faults_are = risen; recorded = recorded })

@@ -1,14 +1,23 @@
-use Rattle.std.specs.Prelude.{◌≡◌, ℕ, true, List, ⊤, ◌⊎◌, is_some}
+use Rattle.std.specs.Prelude.{◌≡◌, ℕ, true, List, Option, Some, None, ⊤, ◌⊎◌, is_some}
+use Rattle.zr_cmd.specs.Words.{Spells}
+use Rattle.zr_cmd.specs.declared.forms.ZfsCall.TheVariants as call
 use Rattle.zr_command.specs.declared.command.Cmd.{Cmd}
 use Rattle.zr_command.specs.declared.command.Cmd.TheVariants as cmd
 use Rattle.zr_command.specs.declared.command.Reply.{Reply}
 use Rattle.zr_command.specs.declared.command.Reply.TheVariants as reply
 use Rattle.zr_command.specs.declared.command.Transfer.{Transfer}
-use Rattle.zr_exec.specs.Serving.{PipeGives}
+use Rattle.zr_exec.specs.Listed.{listed_by}
+use Rattle.zr_exec.specs.Serving.{IsReply, PipeGives}
+use Rattle.zr_exec.specs.declared.spawn.PipeExit.{PipeExit}
+use Rattle.zr_exec.specs.declared.spawn.PipeExit.TheVariants as piped
 use Rattle.zr_exec.specs.declared.spawn.RunExit.{RunExit}
-use Rattle.zr_exec.specs.declared.spawn.RunExit.TheVariants.{Nonzero, Failed}
+use Rattle.zr_exec.specs.declared.spawn.RunExit.TheVariants.{Done, Nonzero, Failed, NoMemory}
 use Rattle.zr_listing.specs.Printing.{MarksAreFree}
+use Rattle.zr_world.specs.Effect.{go, step_at}
+use Rattle.zr_world.specs.Planned.{LeavesAt}
 use Rattle.zr_world.specs.Reasons.{refusal}
+use Rattle.zr_world.specs.declared.effects.Extent.{Extent}
+use Rattle.zr_world.specs.declared.effects.Extent.TheVariants as extent
 use Rattle.zr_world.specs.declared.pools.Pools.{Pools}
 
 -- the reply counts no holds at a bookmark
@@ -16,15 +25,42 @@ abbrev pub AreFree : Reply → Type 0
 AreFree (reply.Versions rows) = MarksAreFree rows
 AreFree given = ⊤
 
--- a child that no plan fails ends with another status only where its command is refused, and nothing else ends it
-abbrev pub EndsUnplanned : Cmd → Pools → RunExit → Type 0
-EndsUnplanned command before Nonzero = is_some (refusal before command) ≡ true
-EndsUnplanned command before Failed = ⊥
-EndsUnplanned command before exit = ⊤
+-- how the child of a command ends that no plan fails: well, with what it prints, or with another status where the command is
+-- refused; where it wrote too much the command came whole, and where memory was refused it may have
+abbrev pub EndsWhole : Cmd → Pools → Pools → RunExit → List ℕ → Type 0
+EndsWhole command before after Done written =
+    (given : Reply) × (step_at before command extent.Whole ≡ go after given) × IsReply (listed_by command) written given
+EndsWhole command before after Nonzero written = (is_some (refusal before command) ≡ true) × (after ≡ before)
+EndsWhole command before after Failed written = ⊥
+EndsWhole command before after exit written = LeavesAt command extent.Whole before after
 
--- the words of a pipe give no transfer on these pools, or one that is refused
-abbrev pub IsVain : List (List ℕ) → List (List ℕ) → Pools → Type 0
-IsVain send receive before =
-    ((transfer : Transfer) → PipeGives send receive before transfer → ⊥)
-    ⊎ ((transfer : Transfer) × PipeGives send receive before transfer
-    × (is_some (refusal before (cmd.Transfer transfer)) ≡ true))
+-- how the child of a command ends, by the plan for it: where that fails it, it is killed
+abbrev pub EndsAt : Option Extent → Cmd → Pools → Pools → RunExit → List ℕ → Type 0
+EndsAt None command before after exit written = EndsWhole command before after exit written
+EndsAt (Some some) command before after exit written = (exit ≡ Failed) × LeavesAt command some before after
+
+-- how a child ends: as that of the command that its words spell; where they spell none it does nothing, and nothing where
+-- memory was refused before
+abbrev pub EndsWords : Option Extent → List (List ℕ) → Pools → Pools → RunExit → List ℕ → Type 0
+EndsWords plan words before after exit written =
+    ((given : Cmd) × Spells words (call.One given) × EndsAt plan given before after exit written)
+    ⊎ ((((given : Cmd) → Spells words (call.One given) → ⊥) × (exit ≡ Nonzero) × (after ≡ before))
+    ⊎ ((exit ≡ NoMemory) × (after ≡ before)))
+
+-- how the pipe of a transfer ends, by the plan for it
+abbrev pub PipeEndsAt : Option Extent → Transfer → Pools → Pools → PipeExit → Type 0
+PipeEndsAt None transfer before after piped.Done =
+    step_at before (cmd.Transfer transfer) extent.Whole ≡ go after reply.Nothing
+PipeEndsAt None transfer before after piped.Failed =
+    (is_some (refusal before (cmd.Transfer transfer)) ≡ true) × (after ≡ before)
+PipeEndsAt None transfer before after piped.NoMemory = after ≡ before
+PipeEndsAt (Some some) transfer before after exit =
+    (exit ≡ piped.Failed) × LeavesAt (cmd.Transfer transfer) some before after
+
+-- how a pipe ends: as that of a transfer that its words give on these pools; where they give none it does nothing, and
+-- nothing where memory was refused before
+abbrev pub PipeEnds : Option Extent → List (List ℕ) → List (List ℕ) → Pools → Pools → PipeExit → Type 0
+PipeEnds plan send receive before after exit =
+    ((given : Transfer) × PipeGives send receive before given × PipeEndsAt plan given before after exit)
+    ⊎ ((((given : Transfer) → PipeGives send receive before given → ⊥) × (exit ≡ piped.Failed) × (after ≡ before))
+    ⊎ ((exit ≡ piped.NoMemory) × (after ≡ before)))

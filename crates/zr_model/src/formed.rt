@@ -111,11 +111,11 @@ fn is_each_version(next_txg: u64, versions: &[Version]) -> bool
 
 fn is_dataset(next_txg: u64, set: &Dataset) -> bool
     ensures formed { IsTrue result → IsWellFormedSet next_txg set.now }
-    ensures only { AllPairs (λ a b. stands_before a.txg a.name b.txg b.name ≡ true) set.now.versions
-        →
+    ensures only { AllPairs (λ a b. stands_before a.txg a.name b.txg b.name ≡ true)
+        set.now.versions →
         AllPairs (λ a b. a.name ≢ b.name) set.now.versions →
-        All (λ v. AllPairs (λ a b. a ≢ b) v.tags) set.now.versions → All MarkIsFree set.now.versions
-        →
+        All (λ v. AllPairs (λ a b. a ≢ b) v.tags) set.now.versions →
+        All MarkIsFree set.now.versions →
         All (λ v. v.txg < next_txg) set.now.versions → IsTrue result }
 {
     let versions = set.versions.as_slice();

@@ -6,7 +6,7 @@ use crate::piping::serve_pipe;
 use crate::serving::{behind_program, serve};
 use std::alloc::{AllocError, Global};
 use std::marker::Model;
-use zr_exec::{Call, Line, PipeExit, Piped, RunExit, Spawn};
+use zr_exec::{Call, LISTING_LIMIT, Line, PipeExit, Piped, RunExit, Spawn};
 use zr_names::{Bytes, NoMemory, Rows, Same, Unit};
 use zr_world::{PlannedFailure, Pools};
 
@@ -39,7 +39,12 @@ impl Model for MemSpawn {
 }
 
 impl MemSpawn {
-    ghost use Rattle.std.specs.Prelude.{◌≡◌, []};
+    ghost use Rattle.std.specs.Prelude.{◌≡◌, ◌≤◌, ◌++◌, ◌∷◌, [], OnOk, OnErr, Some, drop, length, map, string_bytes};
+    ghost use Rattle.zr_exec.specs.Exits.{HasExitCause, HasPipeCause};
+    ghost use Rattle.zr_exec.specs.Recording.{RecordsChild, RecordsPipe};
+    ghost use Rattle.zr_exec.specs.Serving.{DoesPipe, DoesWords};
+    ghost use Rattle.zr_exec.specs.declared.spawn.Line.TheVariants.{Begin};
+    ghost use Rattle.zr_model.specs.Stored.{RanChild, RanPipe};
     ghost use Rattle.zr_world.specs.Pools.{IsWellFormed};
 
     /// A runner whose n-th `run` or `pipe`, counted together from 1, fails where `failing` names n.
@@ -68,6 +73,65 @@ impl MemSpawn {
         ensures { result.now ≡ self.now.pools }
     {
         &self.pools
+    }
+
+    /// Begins a run: it stands in the record, and nothing else changes.
+    pub fn begin_run(&mut self, unit: &Unit, run: u64) -> Result<(), NoMemory>
+        ensures ok { OnOk result
+            (self.new ≡ record self.old { history = self.old.history ++ Begin unit.now run ∷ [] }) }
+        ensures err { OnErr result (self.new ≡ self.old) }
+    {
+        push(&mut self.history, begin_line(unit, run)?)
+    }
+
+    /// Runs one child, or fails it where a failure is planned for the call of its number.
+    pub fn child(&mut self, argv: &[String], out: &mut Vec<u8>) -> RunExit
+        ensures ran { RanChild self.old (map string_bytes argv.now) self.new result out.new.items }
+        ensures cause { HasExitCause self.old.faults self.new.faults result }
+        ensures told { RecordsChild (Some self.old.history) (Some self.new.history)
+            (map string_bytes argv.now) result out.new.items }
+        ensures does { DoesWords (drop 1 (map string_bytes argv.now)) self.old.pools self.new.pools
+            result out.new.items }
+        ensures within { length out.new.items ≤ LISTING_LIMIT }
+        ensures full { result ≡ RunExit.TooLong → length out.new.items ≡ LISTING_LIMIT }
+    {
+        self.calls = self.calls.saturating_add(1);
+        let plan = PlannedFailure::find(self.failing.as_slice(), self.calls);
+        let words = behind_program(argv);
+        let exit = serve(
+            self.alloc,
+            &mut self.pools,
+            &mut self.faults,
+            words,
+            plan,
+            out,
+        );
+        recorded(self.alloc, &mut self.history, argv, exit, out.as_slice())
+    }
+
+    /// Runs two children with a pipe between them, or fails them where a failure is planned for the call of their number.
+    pub fn pair(&mut self, send: &[String], receive: &[String]) -> PipeExit
+        ensures ran { RanPipe self.old (map string_bytes send.now) (map string_bytes receive.now)
+            self.new result }
+        ensures cause { HasPipeCause self.old.faults self.new.faults result }
+        ensures told { RecordsPipe (Some self.old.history) (Some self.new.history)
+            (map string_bytes send.now) (map string_bytes receive.now) result }
+        ensures does { DoesPipe (drop 1 (map string_bytes send.now))
+            (drop 1 (map string_bytes receive.now)) self.old.pools self.new.pools result }
+    {
+        self.calls = self.calls.saturating_add(1);
+        let plan = PlannedFailure::find(self.failing.as_slice(), self.calls);
+        let sends = behind_program(send);
+        let receives = behind_program(receive);
+        let exit = serve_pipe(
+            self.alloc,
+            &mut self.pools,
+            &mut self.faults,
+            sends,
+            receives,
+            plan,
+        );
+        recorded_pipe(self.alloc, &mut self.history, send, receive, exit)
     }
 
     /// The begun runs and the calls so far.
@@ -178,37 +242,14 @@ impl Spawn for MemSpawn {
     ghost pools = { λ m. Some m.pools };
 
     fn begin(&mut self, unit: &Unit, run: u64) -> Result<(), NoMemory> {
-        push(&mut self.history, begin_line(unit, run)?)
+        self.begin_run(unit, run)
     }
 
     fn run(&mut self, argv: &[String], out: &mut Vec<u8>) -> RunExit {
-        self.calls = self.calls.saturating_add(1);
-        let plan = PlannedFailure::find(self.failing.as_slice(), self.calls);
-        let words = behind_program(argv);
-        let exit = serve(
-            self.alloc,
-            &mut self.pools,
-            &mut self.faults,
-            words,
-            plan,
-            out,
-        );
-        recorded(self.alloc, &mut self.history, argv, exit, out.as_slice())
+        self.child(argv, out)
     }
 
     fn pipe(&mut self, send: &[String], receive: &[String]) -> PipeExit {
-        self.calls = self.calls.saturating_add(1);
-        let plan = PlannedFailure::find(self.failing.as_slice(), self.calls);
-        let sends = behind_program(send);
-        let receives = behind_program(receive);
-        let exit = serve_pipe(
-            self.alloc,
-            &mut self.pools,
-            &mut self.faults,
-            sends,
-            receives,
-            plan,
-        );
-        recorded_pipe(self.alloc, &mut self.history, send, receive, exit)
+        self.pair(send, receive)
     }
 }

@@ -1,10 +1,11 @@
 ghost use Rattle.std.specs.Prelude.{◌≡◌, ◌≢◌, None, true, false, IfOk, MatchOption, is_some, map, string_bytes};
 ghost use Rattle.zr_cmd.specs.declared.forms.ZfsCall.TheVariants as call;
-ghost use Rattle.zr_exec.specs.Exits.{HasPipeCause};
+ghost use Rattle.zr_exec.specs.Exits.{HasPipeCause, is_pipe_fault};
 ghost use Rattle.zr_model.specs.Piping.{AreEnds, FindsOne};
 ghost use Rattle.zr_exec.specs.Serving.{DoesPipe, DoesTransfer, PipeGives};
-ghost use Rattle.zr_model.specs.Ends.{IsVain};
+ghost use Rattle.zr_model.specs.Ends.{PipeEnds, PipeEndsAt};
 ghost use Rattle.zr_world.specs.Lookup.{stands};
+ghost use Rattle.zr_world.specs.Planned.{risen_if};
 ghost use Rattle.zr_world.specs.Pools.{IsWellFormed};
 ghost use Rattle.zr_world.specs.Reasons.{refusal};
 ghost use Rattle.zr_command.specs.declared.command.Cmd.TheVariants as cmd;
@@ -22,6 +23,7 @@ use zr_world::{Extent, Pools, act};
 fn failed(faults: &mut u64) -> PipeExit
     ensures cause { HasPipeCause faults.old faults.new result }
     ensures same { result ≡ PipeExit.Failed }
+    ensures counted { faults.new ≡ risen_if true faults.old }
 {
     *faults = faults.saturating_add(1);
     PipeExit::Failed
@@ -169,9 +171,8 @@ fn do_transfer(
     ensures cause { HasPipeCause faults.old faults.new result }
     ensures well_formed { IsWellFormed pools.new }
     ensures does { DoesTransfer transfer pools.old pools.new result }
-    ensures planned { is_some plan ≡ true → result ≢ PipeExit.Done }
-    ensures refused { plan ≡ None → result ≡ PipeExit.Failed →
-        is_some (refusal pools.old (cmd.Transfer transfer)) ≡ true }
+    ensures ends { PipeEndsAt plan transfer pools.old pools.new result }
+    ensures counted { faults.new ≡ risen_if (is_pipe_fault result) faults.old }
 {
     let cmd = Cmd::Transfer(transfer);
     let answer = act(alloc, pools, faults, &cmd, plan);
@@ -200,9 +201,9 @@ pub fn serve_pipe(
     ensures well_formed { IsWellFormed pools.new }
     ensures does { DoesPipe (map string_bytes send.now) (map string_bytes receive.now) pools.old
         pools.new result }
-    ensures planned { is_some plan ≡ true → result ≢ PipeExit.Done }
-    ensures refused { plan ≡ None → result ≡ PipeExit.Failed →
-        IsVain (map string_bytes send.now) (map string_bytes receive.now) pools.old }
+    ensures ends { PipeEnds plan (map string_bytes send.now) (map string_bytes receive.now)
+        pools.old pools.new result }
+    ensures counted { faults.new ≡ risen_if (is_pipe_fault result) faults.old }
 {
     match read_transfer(alloc, pools, send, receive) {
         Ok(Some(transfer)) => do_transfer(alloc, pools, faults, transfer, plan),

@@ -1,13 +1,14 @@
 ghost use Rattle.std.specs.Prelude.{◌≡◌, ◌≢◌, ◌≤◌, [], IfOk, OnOk, None, drop, is_some, length, map, string_bytes, true};
 ghost use Rattle.zr_exec.specs.Commands.{command_in};
-ghost use Rattle.zr_exec.specs.Exits.{HasExitCause};
+ghost use Rattle.zr_exec.specs.Exits.{HasExitCause, is_child_fault};
 ghost use Rattle.zr_exec.specs.Listed.{listed_by};
 ghost use Rattle.zr_cmd.specs.Words.{Spells};
 ghost use Rattle.zr_cmd.specs.declared.forms.ZfsCall.TheVariants.{One};
 ghost use Rattle.zr_model.specs.Piping.{FindsOne, is_unspelled};
-ghost use Rattle.zr_model.specs.Ends.{AreFree, EndsUnplanned};
+ghost use Rattle.zr_model.specs.Ends.{AreFree, EndsAt, EndsWords};
 ghost use Rattle.zr_exec.specs.Serving.{Does, DoesWords, IsReply};
 ghost use Rattle.zr_world.specs.Answering.{IsReplyTo};
+ghost use Rattle.zr_world.specs.Planned.{risen_if};
 ghost use Rattle.zr_world.specs.Pools.{IsWellFormed};
 ghost use Rattle.zr_command.specs.declared.command.Cmd.{Cmd};
 
@@ -33,6 +34,7 @@ pub fn behind_program(argv: &[String]) -> &[String]
 fn counted(faults: &mut u64, exit: RunExit) -> RunExit
     ensures cause { HasExitCause faults.old faults.new result }
     ensures same { result ≡ exit }
+    ensures counted { faults.new ≡ risen_if true faults.old }
 {
     *faults = faults.saturating_add(1);
     exit
@@ -64,6 +66,7 @@ fn write_out(text: &[u8], out: &mut Vec<u8>, faults: &mut u64) -> RunExit
     ensures within { length out.new.items ≤ LISTING_LIMIT }
     ensures full { result ≡ RunExit.TooLong → length out.new.items ≡ LISTING_LIMIT }
     ensures done { result ≡ RunExit.Done → out.new.items ≡ text.now }
+    ensures counted { faults.new ≡ risen_if (is_child_fault result) faults.old }
     ensures ran { result ≢ RunExit.Nonzero }
     ensures ended { result ≢ RunExit.Failed }
 {
@@ -137,8 +140,8 @@ fn serve_command(
     ensures within { length out.new.items ≤ LISTING_LIMIT }
     ensures full { result ≡ RunExit.TooLong → length out.new.items ≡ LISTING_LIMIT }
     ensures does { Does cmd.now pools.old pools.new result out.new.items }
-    ensures planned { is_some plan ≡ true → result ≢ RunExit.Done }
-    ensures refused { plan ≡ None → EndsUnplanned cmd.now pools.old result }
+    ensures ends { EndsAt plan cmd.now pools.old pools.new result out.new.items }
+    ensures counted { faults.new ≡ risen_if (is_child_fault result) faults.old }
 {
     match act(alloc, pools, faults, cmd, plan) {
         Answer::Done(reply) => {
@@ -159,7 +162,7 @@ fn serve_command(
 
 /// Serves the words of a command on these pools, or fails it at a planned extent. Words that are no
 /// command's do nothing.
-#[tactic(auto, using(crate::proofs::Ends::does_spelled, crate::proofs::Ends::unplanned_spelled))]
+#[tactic(auto, using(crate::proofs::Ends::does_spelled))]
 pub fn serve(
     alloc: Global,
     pools: &mut Pools,
@@ -174,10 +177,9 @@ pub fn serve(
     ensures within { length out.new.items ≤ LISTING_LIMIT }
     ensures full { result ≡ RunExit.TooLong → length out.new.items ≡ LISTING_LIMIT }
     ensures does { DoesWords (map string_bytes words.now) pools.old pools.new result out.new.items }
-    ensures planned { is_some plan ≡ true → result ≢ RunExit.Done }
-    ensures refused { plan ≡ None → (given : Cmd) → Spells (map string_bytes words.now) (One given)
-        →
-        EndsUnplanned given pools.old result }
+    ensures ends { EndsWords plan (map string_bytes words.now) pools.old pools.new result
+        out.new.items }
+    ensures counted { faults.new ≡ risen_if (is_child_fault result) faults.old }
 {
     out.clear();
     match read_command(alloc, words) {

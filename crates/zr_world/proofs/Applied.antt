@@ -1,4 +1,4 @@
-use Rattle.std.proofs.Common.{◌≡◌, ℕ, Bool, true, false, cond, find, map, List, [], ◌∷◌, ◌++◌, Option, Some, None, Result, Ok, Err, option_map, refl, subst, sym}
+use Rattle.std.proofs.Common.{◌≡◌, ℕ, Bool, true, false, cond, find, map, List, [], ◌∷◌, ◌++◌, Option, Some, None, Result, Ok, Err, option_map, is_some, ap, ap₂, ◌⊎◌, inl, inr, refl, subst, sym}
 use Rattle.std.proofs.lemmas.List.Elements.{Contains-push}
 use Rattle.zr_base.proofs.Lists.{AllPairs-map}
 use Rattle.zr_command.specs.Names.{is_below, same_text}
@@ -16,8 +16,9 @@ use Rattle.zr_world.specs.declared.effects.Refusal.{Refusal}
 use Rattle.zr_world.specs.declared.pools.Dataset.{Dataset}
 use Rattle.zr_world.specs.declared.pools.Pools.{Pools}
 use Rattle.zr_world.specs.Answering.{IsReplyTo}
-use Rattle.zr_world.specs.Effect.{after_since, Applies, Comes, ComesUnless, Effect, Gives, MayCome, part_of, Replies, reply_to, row_at, ShowsSets, step_at, unless_refused}
+use Rattle.zr_world.specs.Effect.{after_since, Applies, Comes, ComesUnless, Effect, Gives, go, MayCome, part_of, refuse, Replies, reply_to, row_at, ShowsSets, Step, step_at, unless_refused}
 use Rattle.zr_world.specs.Lookup.{is_at}
+use Rattle.zr_world.specs.Planned.{LeavesAt}
 use Rattle.zr_world.specs.Pools.{IsWellFormed}
 use Rattle.zr_world.specs.Reasons.{refusal, refusal_since}
 use Rattle.zr_world.specs.Rows.{row_of_set}
@@ -142,3 +143,33 @@ apply-leaves pools after command some result applies formed = choose result (app
 -- a call that applies a whole command and replies has done it
 pub apply-done : (pools after : Pools) (command : Cmd) (given : Reply) → Applies pools (step_at pools command extent.Whole) after (Ok given) → IsWellFormed pools → Effect [] pools command extent.Whole after (Ok given)
 apply-done pools after command given applies formed = apply-gives [] pools after command extent.Whole (Ok given) formed applies
+
+-- what a call that applies a step leaves: what the step does, or nothing
+step-leaves : (pools after : Pools) (what : Step) (r : Result Reply ApplyFault) → Applies pools what after r → ((given : Reply) × (what ≡ go after given)) ⊎ (after ≡ pools)
+step-leaves pools after (refuse why) (Ok got) applies = absurd applies
+step-leaves pools after (refuse why) (Err (Refused other)) applies = inr applies.1
+step-leaves pools after (refuse why) (Err NoMemory) applies = inr applies
+step-leaves pools after (go next given) (Ok got) applies = inl (given, ap (λ (p : Pools). go p given) (sym applies.0))
+step-leaves pools after (go next given) (Err (Refused other)) applies = absurd applies
+step-leaves pools after (go next given) (Err NoMemory) applies = inr applies
+
+pub apply-leaves-at : (pools after : Pools) (command : Cmd) (some : Extent) (r : Result Reply ApplyFault) → Applies pools (step_at pools command some) after r → LeavesAt command some pools after
+apply-leaves-at pools after command some r applies = step-leaves pools after (step_at pools command some) r applies
+
+step-done : (pools after : Pools) (what : Step) (got : Reply) → Applies pools what after (Ok got) → what ≡ go after got
+step-done pools after (refuse why) got applies = absurd applies
+step-done pools after (go next given) got applies = ap₂ go (sym applies.0) (sym applies.1)
+
+-- a call that applies a command and gives a reply took its step
+pub apply-came : (pools after : Pools) (command : Cmd) (some : Extent) (got : Reply) → Applies pools (step_at pools command some) after (Ok got) → step_at pools command some ≡ go after got
+apply-came pools after command some got applies = step-done pools after (step_at pools command some) got applies
+
+refused-by : (pools after next : Pools) (refused : Option Refusal) (why : Refusal) (given : Reply) → Applies pools (unless_refused refused next given) after (Err (Refused why)) → (is_some refused ≡ true) × (after ≡ pools)
+refused-by pools after next (Some other) why given applies = (refl, applies.1)
+refused-by pools after next None why given applies = absurd applies
+
+-- and one that is refused changed nothing
+pub apply-refused : (pools after : Pools) (command : Cmd) (fault : ApplyFault) (why : Refusal) → fault ≡ Refused why → Applies pools (step_at pools command extent.Whole) after (Err fault) → (is_some (refusal pools command) ≡ true) × (after ≡ pools)
+apply-refused pools after command fault why is applies =
+    let refused = subst (λ (f : ApplyFault). Applies pools (step_at pools command extent.Whole) after (Err f)) is applies in
+    refused-by pools after (after_since pools pools command) (refusal pools command) why (reply_to pools command) refused

@@ -16,7 +16,7 @@ use Rattle.zr_command.specs.declared.command.Cmd.{Cmd}
 use Rattle.zr_command.specs.declared.command.Cmd.TheVariants as cmd
 use Rattle.zr_command.specs.declared.command.Transfer.{Transfer}
 use Rattle.zr_world.specs.declared.effects.Refusal.{Refusal}
-use Rattle.zr_world.specs.declared.effects.Refusal.TheVariants.{NoSuch, Exists, TagThere, NotNewest, HasPartial, NoPartial, Spent}
+use Rattle.zr_world.specs.declared.effects.Refusal.TheVariants.{NoSuch, Exists, TagThere, NotNewest, HasPartial, Spent}
 use Rattle.zr_world.specs.declared.pools.Dataset.{Dataset}
 use Rattle.zr_world.specs.declared.pools.Pools.{Pools}
 use Rattle.zr_world.specs.declared.pools.Version.{Version}

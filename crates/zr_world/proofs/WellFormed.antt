@@ -12,7 +12,7 @@ use Rattle.zr_world.specs.declared.pools.Pools.{Pools}
 use Rattle.zr_world.specs.declared.pools.Version.{Version}
 use Rattle.zr_command.specs.declared.version.VersionName.{VersionName}
 use Rattle.zr_command.specs.declared.version.VersionName.TheVariants.{Snap, Mark}
-use Rattle.zr_world.specs.Effect.{new_placeholder, new_set, put_in, set_before, version_before, with_new, with_partial, with_set, with_tags, with_target, with_version, without, without_set, without_tag}
+use Rattle.zr_world.specs.Effect.{new_placeholder, new_set, set_before, version_before, with_new, with_partial, with_set, with_tags, with_target, with_version, without, without_set, without_tag}
 use Rattle.zr_world.specs.Lookup.{dataset_at, has_name, is_at, tags_at, version_at}
 use Rattle.zr_command.specs.Names.{is_below, is_tagged, same_name, same_text}
 use Rattle.zr_command.specs.Listings.{stands_before}

@@ -3,6 +3,7 @@ pub mod Effect
 pub mod Lookup
 pub mod Mem
 pub mod Memory
+pub mod Planned
 pub mod Pools
 pub mod Reasons
 pub mod Rows

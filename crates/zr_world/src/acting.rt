@@ -1,7 +1,7 @@
-ghost use Rattle.std.specs.Prelude.{◌≡◌, ◌++◌, ◌∷◌, [], None, false, is_some, true};
-ghost use Rattle.zr_world.specs.Answering.{Answers, IsReplyTo, HasCause, is_garbled};
+ghost use Rattle.std.specs.Prelude.{◌≡◌, false};
+ghost use Rattle.zr_world.specs.Answering.{Answers, IsReplyTo, HasCause, is_failed, is_garbled};
 ghost use Rattle.zr_world.specs.Pools.{IsWellFormed};
-ghost use Rattle.zr_world.specs.Reasons.{refusal};
+ghost use Rattle.zr_world.specs.Planned.{ComesAt, ComesWhole, LeavesAt, risen_if};
 
 use crate::effects::{ApplyFault, Extent, apply};
 use crate::pools::Pools;
@@ -21,9 +21,8 @@ pub fn act(
     ensures well_formed { IsWellFormed pools.old → IsWellFormed pools.new }
     ensures shape { IsWellFormed pools.old → IsReplyTo cmd.now result }
     ensures legible { is_garbled result ≡ false }
-    ensures planned { is_some plan ≡ true → result ≡ Answer.Failed }
-    ensures refused { plan ≡ None → result ≡ Answer.Failed
-        → is_some (refusal pools.old cmd.now) ≡ true }
+    ensures comes { ComesAt plan cmd.now pools.old pools.new result }
+    ensures counted { faults.new ≡ risen_if (is_failed result) faults.old }
 {
     match plan {
         Some(extent) => fail(alloc, pools, faults, cmd, extent),
@@ -37,6 +36,8 @@ fn fail(alloc: Global, pools: &mut Pools, faults: &mut u64, cmd: &Cmd, extent: E
     ensures answer { IsWellFormed pools.old → Answers cmd.now pools.old pools.new result }
     ensures well_formed { IsWellFormed pools.old → IsWellFormed pools.new }
     ensures failed { result ≡ Answer.Failed }
+    ensures comes { LeavesAt cmd.now extent pools.old pools.new }
+    ensures counted { faults.new ≡ risen_if (is_failed result) faults.old }
 {
     let _ = apply(alloc, pools, cmd, extent);
     *faults = faults.saturating_add(1);
@@ -50,7 +51,8 @@ fn succeed(alloc: Global, pools: &mut Pools, faults: &mut u64, cmd: &Cmd) -> Ans
     ensures well_formed { IsWellFormed pools.old → IsWellFormed pools.new }
     ensures shape { IsWellFormed pools.old → IsReplyTo cmd.now result }
     ensures legible { is_garbled result ≡ false }
-    ensures refused { result ≡ Answer.Failed → is_some (refusal pools.old cmd.now) ≡ true }
+    ensures comes { ComesWhole cmd.now pools.old pools.new result }
+    ensures counted { faults.new ≡ risen_if (is_failed result) faults.old }
 {
     match apply(alloc, pools, cmd, Extent::Whole) {
         Ok(reply) => Answer::Done(reply),

@@ -18,28 +18,34 @@ ghost use Rattle.zr_world.specs.declared.pools.Pools.{Pools};
 
 /// What `apply` leaves and answers is an effect of the relation, whatever the moments since the command's issue were.
 pub fn apply_makes_an_effect()
-    ensures { (since : List Pools) (pools after : Pools) (command : Cmd) (some : Extent) (answer : Result Reply ApplyFault) →
+    ensures { (since : List Pools) (pools after : Pools) (command : Cmd) (some : Extent)
+        (answer : Result Reply ApplyFault) →
         IsWellFormed pools → Applies pools (step_at pools command some) after answer →
         Gives since pools command some after answer }
 {}
 
 /// A refused command gives back why and changes nothing at any extent, and no command changes anything at the extent `None`.
 pub fn refused_commands_change_nothing()
-    ensures refused { (before after : Pools) (command : Cmd) (some : Extent) (why : Refusal) (got : Result Reply Refusal) →
-        refusal before command ≡ Some why → Effect [] before command some after got → (got ≡ Err why) × (after ≡ before) }
-    ensures none { (since : List Pools) (before after : Pools) (command : Cmd) (got : Result Reply Refusal) →
+    ensures refused { (before after : Pools) (command : Cmd) (some : Extent) (why : Refusal)
+        (got : Result Reply Refusal) →
+        refusal before command ≡ Some why → Effect [] before command some after got
+        → (got ≡ Err why) × (after ≡ before) }
+    ensures none { (since : List Pools) (before after : Pools) (command : Cmd)
+        (got : Result Reply Refusal) →
         Effect since before command extent.None after got → after ≡ before }
 {}
 
 /// Every effect leaves well-formed pools well formed, at whatever moment since the issue its sending end read the source.
 pub fn effects_keep_pools_well_formed()
-    ensures { (since : List Pools) (before after : Pools) (command : Cmd) (some : Extent) (got : Result Reply Refusal) →
+    ensures { (since : List Pools) (before after : Pools) (command : Cmd) (some : Extent)
+        (got : Result Reply Refusal) →
         Effect since before command some after got → IsWellFormed before → IsWellFormed after }
 {}
 
 /// A transfer may have read its source at an earlier moment since its issue, also where the snapshot is gone by the effect.
 pub fn a_transfer_may_have_read_its_source_earlier()
-    ensures { (since : List Pools) (before earlier : Pools) (transfer : Transfer) → Contains since earlier →
+    ensures { (since : List Pools) (before earlier : Pools) (transfer : Transfer)
+        → Contains since earlier →
         first_that_applies (source_reasons earlier (cmd.Transfer transfer)) ≡ None →
         first_that_applies (reasons before (cmd.Transfer transfer)) ≡ None →
         Effect since before (cmd.Transfer transfer) extent.Whole
@@ -49,9 +55,12 @@ pub fn a_transfer_may_have_read_its_source_earlier()
 /// A listing of all datasets shows a path as it was at all moments since the issue, where these agree on it; so where
 /// nothing else runs it shows the rows of its moment.
 pub fn a_listing_shows_what_stood_still()
-    ensures still { (since : List Pools) (before after : Pools) (rows : List SetRow) (path : List ℕ) (row : Option SetRow) →
+    ensures still { (since : List Pools) (before after : Pools) (rows : List SetRow) (path : List ℕ)
+        (row : Option SetRow) →
         All (λ moment. shown_at moment path ≡ row) (since ++ before ∷ []) →
-        Effect since before cmd.Sets extent.Whole after (Ok (reply.Sets rows)) → row_at rows path ≡ row }
+        Effect since before cmd.Sets extent.Whole after (Ok (reply.Sets rows))
+        → row_at rows path ≡ row }
     ensures alone { (before after : Pools) (rows : List SetRow) → IsWellFormed before →
-        Effect [] before cmd.Sets extent.Whole after (Ok (reply.Sets rows)) → rows ≡ map row_of_set before.sets }
+        Effect [] before cmd.Sets extent.Whole after (Ok (reply.Sets rows))
+        → rows ≡ map row_of_set before.sets }
 {}

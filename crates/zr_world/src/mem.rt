@@ -40,7 +40,11 @@ impl Model for MemZfs {
 }
 
 impl MemZfs {
-    ghost use Rattle.std.specs.Prelude.{◌≡◌, []};
+    ghost use Rattle.std.specs.Prelude.{◌≡◌, ◌++◌, ◌∷◌, [], OnOk, OnErr, Some};
+    ghost use Rattle.zr_command.specs.declared.command.Entry.TheVariants.{Begin};
+    ghost use Rattle.zr_command.specs.Plain.{plain};
+    ghost use Rattle.zr_world.specs.Answering.{AnswersWords, HasCause, IsReplyTo, Logs};
+    ghost use Rattle.zr_world.specs.Planned.{Called};
     ghost use Rattle.zr_world.specs.Pools.{IsWellFormed};
 
     /// A runner whose n-th `run`, counted from 1, fails where `failing` names n.
@@ -68,6 +72,30 @@ impl MemZfs {
         ensures { result.now ≡ self.now.pools }
     {
         &self.pools
+    }
+
+    /// Begins a run: it stands in the record, and nothing else changes.
+    pub fn begin_run(&mut self, unit: &Unit, run: u64) -> Result<(), NoMemory>
+        ensures ok { OnOk result
+            (self.new ≡ record self.old { history = self.old.history ++ Begin unit.now run ∷ [] }) }
+        ensures err { OnErr result (self.new ≡ self.old) }
+    {
+        push(&mut self.history, begin_entry(unit, run)?)
+    }
+
+    /// Answers a command as ZFS does, or fails it where a failure is planned for the call of its number.
+    pub fn call(&mut self, cmd: &Cmd) -> Answer
+        ensures called { Called self.old cmd.now self.new result }
+        ensures cause { HasCause self.old.faults self.new.faults result }
+        ensures logged { Logs (Some self.old.history) (Some self.new.history) (plain cmd.now)
+            result }
+        ensures answered { AnswersWords cmd.now self.old.pools self.new.pools result }
+        ensures shape { IsReplyTo cmd.now result }
+    {
+        self.calls = self.calls.saturating_add(1);
+        let plan = PlannedFailure::find(self.failing.as_slice(), self.calls);
+        let answer = act(self.alloc, &mut self.pools, &mut self.faults, cmd, plan);
+        recorded(&mut self.history, cmd, answer)
     }
 
     /// The begun runs and the calls so far.
@@ -132,13 +160,10 @@ impl Zfs for MemZfs {
     ghost history = { λ m. Some m.history };
 
     fn begin(&mut self, unit: &Unit, run: u64) -> Result<(), NoMemory> {
-        push(&mut self.history, begin_entry(unit, run)?)
+        self.begin_run(unit, run)
     }
 
     fn run(&mut self, cmd: &Cmd) -> Answer {
-        self.calls = self.calls.saturating_add(1);
-        let plan = PlannedFailure::find(self.failing.as_slice(), self.calls);
-        let answer = act(self.alloc, &mut self.pools, &mut self.faults, cmd, plan);
-        recorded(&mut self.history, cmd, answer)
+        self.call(cmd)
     }
 }

@@ -8,12 +8,12 @@ pub struct PlannedFailure {
 }
 
 impl PlannedFailure {
-    ghost use Rattle.std.specs.Prelude.{◌≡◌, ◌==◌, find, option_map};
+    ghost use Rattle.std.specs.Prelude.{◌≡◌};
+    ghost use Rattle.zr_world.specs.Planned.{planned_at};
 
     /// The extent at which this call is to fail, if it is.
     pub fn find(failing: &[PlannedFailure], call: u64) -> Option<Extent>
-        ensures { result ≡ option_map (λ planned. planned.extent)
-            (find (λ planned. planned.call == call) failing.now) }
+        ensures { result ≡ planned_at failing.now call }
     {
         let planned = failing.iter().find(|planned| planned.call == call)?;
         Some(planned.extent)

@@ -43,6 +43,15 @@ now 200 txg 50 guid 50;back;tank @a:11:11:100 @b:12:12:100;
 3 told, the last zfs send -i tank#m tank@a: nonzero []
 =
 
+listings_by_their_words
+now 200 txg 50 guid 50;tank @a:11:11:100 #m:11:11:100 @b:12:12:100[zrepl_last];tank/p placeholder;
+  zfs list -H -p -t filesystem,volume -o name,zrepl:placeholder,receive_resume_token => done [tank~-~-$tank/p~on~-$], told zfs list -H -p -t filesystem,volume -o name,zrepl:placeholder,receive_resume_token: done [tank~-~-$tank/p~on~-$]
+  zfs list -H -p -d 1 -t snapshot,bookmark -s createtxg -o name,guid,createtxg,creation,userrefs tank => done [tank@a~11~11~100~0$tank#m~11~11~100~-$tank@b~12~12~100~1$], told zfs list -H -p -d 1 -t snapshot,bookmark -s createtxg -o name,guid,createtxg,creation,userrefs tank: done [tank@a~11~11~100~0$tank#m~11~11~100~-$tank@b~12~12~100~1$]
+  zfs holds -H tank@b => done [tank@b~zrepl_last~0$], told zfs holds -H tank@b: done [tank@b~zrepl_last~0$]
+  zfs holds -H tank@c => nonzero [], told zfs holds -H tank@c: nonzero []
+4 told, the last zfs holds -H tank@c: nonzero []
+=
+
 words_of_no_command_do_nothing
 now 200 txg 50 guid 50;tank @a:11:11:100 #a:11:11:100 @b:12:12:100[zrepl_last];tank/x placeholder;
   zfs get => nonzero [], told zfs get: nonzero []

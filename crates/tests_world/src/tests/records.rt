@@ -21,7 +21,16 @@ now 9000 txg 100 guid 500;tank @a:11:1:1011 #a:11:1:1011 @b:12:2:1012[x];
   part send tank a 11 full tank/new => failed 1 =;=;tank/new partial 11 none tank;
   whole send tank a 11 full tank/new => failed 1 now 9000 txg 101 guid 500;=;tank/new @a:11:100:1011;
   destroy tank @b => failed 1 =
-  whole destroy tank @b => failed 1 =";
+  whole destroy tank @b => failed 1 =
+
+what_is_asked_is_answered
+now 9000 txg 100 guid 500;tank @a:11:1:1011 #m:11:1:1011 @b:12:2:1012[x];tank/p placeholder;
+  sets => tank -;tank/p on; 0 =
+  versions tank => @a:11:1:1011:0;#m:11:1:1011:0;@b:12:2:1012:1; 0 =
+  holds tank b => [x] 0 =
+  holds tank c => failed 1 =
+  none sets => failed 1 =
+  whole versions tank => failed 1 =";
 
 /// Pools of which each command sees a copy.
 #[derive(Clone, Copy)]
@@ -60,7 +69,9 @@ fn came_alone(alloc: Global, block: &str) -> Option<String> {
 
 #[test]
 fn commands_that_are_answered(rt: HostRuntime) {
-    is(&rt, ANSWERS, came_alone(rt.alloc(), ANSWERS));
+    for block in ANSWERS.split("\n\n") {
+        is(&rt, block, came_alone(rt.alloc(), block));
+    }
 }
 
 /// Commands to a runner, one after the other: the answer, what has changed since the first, how many entries there are in
