@@ -1,8 +1,11 @@
-//! Texts of the profile, and the trees or the lines that they answer. Both were worked out by hand.
+//! Texts of the profile, and the trees or the lines that they answer, and TOML texts with their trees. All were worked out
+//! by hand.
 
 use std::alloc::Global;
 use std::test::Fail;
 use tests_lines::{Unread, ask_of, bytes_of, escaped, is_wanted, told};
+use toml::table_from_slice;
+use zr_jobfile::node_of;
 use zr_names::node::{Node, NodePair};
 use zr_yaml::{YamlFault, read_yaml};
 
@@ -260,6 +263,30 @@ a: 1\n\n\x23 x\nb: : => line 4
 jobs:\n- name: p\n\s\stype: push\n\s\sconnect: {type: local, listener_name: l, client_identity: c}\n\s\sfilesystems: {\n\s\s\s\s"tank/a": true,\s\s\s\x23 one\n\s\s}\n\s\ssnapshotting:\n\s\s\s\stype: manual\n\s\spruning: {keep_sender: [], keep_receiver: []}\n- name: k\n\s\stype: sink\n\s\sroot_fs: b\n\s\sserve:\n\s\s\s\stype: local\n\s\s\s\slistener_name: 'l'\n => {"jobs": [{"name": "p", "type": "push", "connect": {"type": "local", "listener_name": "l", "client_identity": "c"}, "filesystems": {"tank/a": true}, "snapshotting": {"type": "manual"}, "pruning": {"keep_sender": [], "keep_receiver": []}}, {"name": "k", "type": "sink", "root_fs": "b", "serve": {"type": "local", "listener_name": "l"}}]}
 "#;
 
+/// A TOML text, and the tree of its document as JSON.
+const DOCUMENTS: &str = r#"
+# tables are maps, with their keys in byte order
+\e => {}
+b = 1\na = 2\n"" = 3 => {"": 3, "a": 2, "b": 1}
+[b]\nx = "y"\n[a.c] => {"a": {"c": {}}, "b": {"x": "y"}}
+# arrays are sequences
+a = [] => {"a": []}
+a = [1, ["x"], {b = true}] => {"a": [1, ["x"], {"b": true}]}
+[[jobs]]\nname = "p"\n[[jobs]]\nname = "q" => {"jobs": [{"name": "p"}, {"name": "q"}]}
+# integers of at least 0 are numbers
+a = 0 => {"a": 0}
+a = 0x1F => {"a": 31}
+a = 9223372036854775807 => {"a": 9223372036854775807}
+# no field takes any other value
+a = -1 => {"a": other}
+a = -9223372036854775808 => {"a": other}
+a = 1.5 => {"a": other}
+a = 2026-12-01 => {"a": other}
+a = [2026-12-01T00:00:00Z, 1] => {"a": [other, 1]}
+# booleans are flags
+a = true\nb = false => {"a": true, "b": false}
+"#;
+
 fn put(out: &mut String, text: &str) -> Result<(), Unread> {
     match out.push_str(text) {
         Ok(()) => Ok(()),
@@ -330,6 +357,29 @@ fn said(alloc: Global, ask: &str) -> Result<String, Unread> {
         Err(YamlFault::BadYaml(line)) => Ok(format!(in alloc; "line {line}")?),
         Err(YamlFault::NoMemory) => Err(Unread),
     }
+}
+
+/// The tree of a TOML text.
+fn document(alloc: Global, ask: &str) -> Result<String, Unread> {
+    let text = bytes_of(alloc, ask)?;
+    let Ok(table) = table_from_slice(alloc, text.as_slice()) else {
+        return Err(Unread);
+    };
+    let node = node_of(alloc, &table)?;
+    let mut out = String::new(alloc);
+    put_node(alloc, &mut out, &node)?;
+    Ok(out)
+}
+
+#[test]
+fn documents_are_trees(rt: HostRuntime) -> Result<(), Fail> {
+    for line in DOCUMENTS.lines() {
+        if let Some(ask) = ask_of(line) {
+            let said = document(rt.alloc(), ask);
+            assert!(rt; is_wanted(line, &said), "{line}: {}", told(&said));
+        }
+    }
+    Ok(())
 }
 
 #[test]

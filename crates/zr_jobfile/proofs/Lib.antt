@@ -1,3 +1,4 @@
 pub mod Pairs
 pub mod Patterns
 pub mod Shapes
+pub mod Documents

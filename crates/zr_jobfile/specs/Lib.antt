@@ -1,4 +1,5 @@
 pub mod JobFile
 pub mod PushFile
+pub mod Nodes
 pub mod SnapFile
 pub mod Trees

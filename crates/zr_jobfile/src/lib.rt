@@ -5,10 +5,12 @@ ghost use Rattle.zr_jobfile.specs.JobFile.{ReadsJobs};
 
 mod building;
 pub mod laws;
+mod nodes;
 mod push_shape;
 mod shape;
 mod snap_shape;
 
+pub use nodes::node_of;
 use std::alloc::{AllocError, Global};
 use toml::table_from_slice;
 use zr_jobs::JobSet;
