@@ -2,3 +2,4 @@
 mod cmd;
 mod jobfile;
 mod listing;
+mod names;

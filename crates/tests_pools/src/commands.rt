@@ -3,7 +3,7 @@
 use crate::words::{job, mark, number, path, snap, word};
 use std::alloc::Global;
 use std::str::Split;
-use zr_command::{Base, Cmd, Transfer, VersionName};
+use zr_command::{Base, Cmd, Names, Transfer, VersionName, read_names};
 use zr_names::{Guid, TagKind};
 use zr_world::{Extent, PlannedFailure};
 
@@ -68,12 +68,23 @@ fn bookmark(alloc: Global, set: &str, of: &str, name: &str) -> Option<Cmd> {
     Some(Cmd::Bookmark(set, of, mark(alloc, name)?))
 }
 
-fn destroy(alloc: Global, set: &str, name: &str) -> Option<Cmd> {
-    let set = path(alloc, set)?;
-    match name_of(alloc, name)? {
-        VersionName::Snap(name) => Some(Cmd::DestroySnap(set, name)),
-        VersionName::Mark(name) => Some(Cmd::DestroyMark(set, name)),
+/// Names of snapshots, parted by commas.
+fn group(alloc: Global, text: &str) -> Option<Names> {
+    let mut names = Vec::new(alloc);
+    for name in text.split(',') {
+        names.push(snap(alloc, name)?).ok()?;
     }
+    read_names(names).ok()
+}
+
+/// `@` and the names of snapshots or `#` and a bookmark's.
+fn destroy(alloc: Global, set: &str, names: &str) -> Option<Cmd> {
+    let set = path(alloc, set)?;
+    if let Some(names) = names.strip_prefix('@') {
+        return Some(Cmd::DestroySnaps(set, group(alloc, names)?));
+    }
+    let name = names.strip_prefix('#')?;
+    Some(Cmd::DestroyMark(set, mark(alloc, name)?))
 }
 
 /// What a transfer starts from: `full`, or a bookmark of this guid.
@@ -132,11 +143,21 @@ pub fn command_of(alloc: Global, line: &str) -> Option<Cmd> {
     }
 }
 
+/// The bits that choose names, and the call behind them.
+fn chosen_of(rest: &str) -> Option<(Extent, &str)> {
+    let (bits, call) = rest.split_once(' ')?;
+    Some((Extent::Chosen(number(bits)?), call))
+}
+
 /// The extent that stands before a call, which is to fail at it, and the call.
 pub fn extent_of(call: &str) -> (Option<Extent>, &str) {
     match call.split_once(' ') {
         Some(("none", call)) => (Some(Extent::None), call),
         Some(("part", call)) => (Some(Extent::Part), call),
+        Some(("chosen", rest)) => match chosen_of(rest) {
+            Some((extent, call)) => (Some(extent), call),
+            None => (None, call),
+        },
         Some(("whole", call)) => (Some(Extent::Whole), call),
         _ => (None, call),
     }

@@ -1,6 +1,6 @@
 use Rattle.std.proofs.Common.{◌≡◌, ◌==◌, ◌&&◌, ◌||◌, ℕ, Bool, true, false, cond, List, [], ◌∷◌, ◌++◌, Some, None, nat_eq, refl, ap, ◌∙◌, sym, subst, ◌⊎◌, inl, inr, Result, Ok, Err}
 use Rattle.std.specs.Cmp.Lexicographic.{pointwise}
-use Rattle.std.specs.List.{list_any}
+use Rattle.std.specs.List.{join_with_byte, list_any}
 use Rattle.std.proofs.lemmas.Cmp.{nat_list_eq_equiv}
 use Rattle.std.proofs.lemmas.Slice.Eq.{bytes_eq-Decides}
 use Rattle.zr_command.specs.declared.command.Cmd.TheVariants as cmd
@@ -12,7 +12,7 @@ use Rattle.zr_cmd.specs.declared.argv.ArgvFault.{ArgvFault}
 use Rattle.zr_cmd.specs.declared.argv.ArgvFault.TheVariants.{UnknownCommand, BadWord, NoMemory}
 use Rattle.zr_cmd.specs.declared.forms.ZfsCall.{ZfsCall}
 use Rattle.zr_cmd.specs.declared.forms.ZfsCall.TheVariants as call
-use Rattle.zr_cmd.proofs.Cut.{set-of, name-of, kind-of, after-front}
+use Rattle.zr_cmd.proofs.Cut.{set-of, name-of, names-of, kind-of, after-front}
 use Rattle.zr_cmd.proofs.Spelling.{form_of}
 use Rattle.zr_cmd.proofs.Texts.{ArePlain, name-plain, path-plain}
 
@@ -51,7 +51,7 @@ form-found (call.One (cmd.Hold kind job path name)) n = refl
 form-found (call.One (cmd.Release kind job path name)) n = refl
 form-found (call.One (cmd.Bookmark path (version.Snap name) mark)) n = rw (has-at path name) refl
 form-found (call.One (cmd.Bookmark path (version.Mark name) mark)) n = rw (mark-no-at path name (path-plain path n.0) (name-plain 255 name n.1)) refl
-form-found (call.One (cmd.DestroySnap path name)) n = rw (has-at path name) refl
+form-found (call.One (cmd.DestroySnaps path names)) n = rw (has-at path (join_with_byte 44 names)) refl
 form-found (call.One (cmd.DestroyMark path mark)) n = rw (mark-no-at path mark (path-plain path n.0) (name-plain 255 mark n.1)) refl
 form-found (call.One (cmd.Create path)) n = refl
 form-found (call.One (cmd.Transfer transfer)) n = absurd n
@@ -76,7 +76,7 @@ names-found (call.One (cmd.Bookmark path (version.Snap name) mark)) n =
     rw (set-of path name 64 refl n.0, name-of path name 64 refl n.0, name-of path mark 35 refl n.0) refl
 names-found (call.One (cmd.Bookmark path (version.Mark name) mark)) n =
     rw (set-of path name 35 refl n.0, name-of path name 35 refl n.0, name-of path mark 35 refl n.0) refl
-names-found (call.One (cmd.DestroySnap path name)) n = rw (set-of path name 64 refl n.0, name-of path name 64 refl n.0) refl
+names-found (call.One (cmd.DestroySnaps path names)) n = rw (set-of path (join_with_byte 44 names) 64 refl n.0, names-of path names n.0 n.1) refl
 names-found (call.One (cmd.DestroyMark path mark)) n = rw (set-of path mark 35 refl n.0, name-of path mark 35 refl n.0) refl
 names-found (call.One (cmd.Create path)) n = refl
 names-found (call.One (cmd.Transfer transfer)) n = absurd n
@@ -145,7 +145,7 @@ some-words (call.One (cmd.Snapshot path name)) n e = cc
 some-words (call.One (cmd.Hold kind job path name)) n e = cc
 some-words (call.One (cmd.Release kind job path name)) n e = cc
 some-words (call.One (cmd.Bookmark path from mark)) n e = cc
-some-words (call.One (cmd.DestroySnap path name)) n e = cc
+some-words (call.One (cmd.DestroySnaps path names)) n e = cc
 some-words (call.One (cmd.DestroyMark path mark)) n e = cc
 some-words (call.One (cmd.Create path)) n e = cc
 some-words (call.One (cmd.Transfer transfer)) n e = absurd n

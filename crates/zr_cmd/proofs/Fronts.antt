@@ -4,10 +4,10 @@ use Rattle.std.proofs.lemmas.List.{get_or-take, length-take-le}
 use Rattle.zr_names.specs.Marks.{tag_text}
 use Rattle.zr_names.specs.Names.{path_is_bad, name_is_bad}
 use Rattle.zr_names.specs.declared.marks.TagKind.TheVariants.{Step}
-use Rattle.zr_cmd.specs.Forms.{Suits, Pattern, fixed, a_path, a_snap, a_mark, same_snap, same_mark, a_tag, set_part}
+use Rattle.zr_cmd.specs.Forms.{Suits, Pattern, fixed, a_path, a_snap, a_group, a_mark, same_snap, same_mark, a_tag, set_part}
 use Rattle.zr_cmd.specs.Steps.{SuitsAt}
-use Rattle.zr_cmd.specs.Words.{IsJob, IsPath, IsVersion}
-use Rattle.zr_cmd.proofs.Cut.{full, job-tag, set-of}
+use Rattle.zr_cmd.specs.Words.{IsGroup, IsJob, IsPath, IsVersion}
+use Rattle.zr_cmd.proofs.Cut.{full, full-group, job-tag, set-of}
 
 -- the words are as the patterns have them, as far as they go
 abbrev pub Along : List Pattern → List ℕ → List (List ℕ) → Type 0
@@ -86,6 +86,7 @@ abbrev pub names_set : Pattern → Bool
 names_set (fixed text) = false
 names_set a_path = false
 names_set a_snap = true
+names_set a_group = true
 names_set a_mark = true
 names_set same_snap = true
 names_set same_mark = true
@@ -96,6 +97,7 @@ abbrev pub may_follow : Bool → Pattern → Bool
 may_follow named (fixed text) = true
 may_follow named a_path = true
 may_follow named a_snap = true
+may_follow named a_group = true
 may_follow named a_mark = true
 may_follow named same_snap = named
 may_follow named same_mark = named
@@ -109,6 +111,7 @@ named-set : (p : Pattern) (before word : List ℕ) → names_set p ≡ true → 
 named-set (fixed text) before word e f = cc
 named-set a_path before word e f = cc
 named-set a_snap before word e f = f.is_path
+named-set a_group before word e f = f.is_path
 named-set a_mark before word e f = f.is_path
 named-set same_snap before word e f = f.0.is_path
 named-set same_mark before word e f = f.0.is_path
@@ -129,6 +132,12 @@ path-a = record { not_empty = omega arith; not_long = omega arith; no_place_bad 
 name-a : IsVersion (97 ∷ [])
 name-a = record { not_empty = omega arith; not_long = omega arith; no_place_bad = first-name }
 
+group-a : IsGroup ((97 ∷ []) ∷ [])
+group-a = record {
+  each = (name-a, tt);
+  group = record { some = omega arith; few = omega arith; differ = λ i j d less inside. absurd (omega arith) };
+}
+
 job-a : IsJob (97 ∷ [])
 job-a = record { not_empty = omega arith; not_long = omega arith; no_place_bad = first-name }
 
@@ -137,6 +146,7 @@ fillable : (p prev : Pattern) (before word : List ℕ) → may_follow (names_set
 fillable (fixed text) prev before word e f = (text, refl)
 fillable a_path prev before word e f = (97 ∷ [], path-a)
 fillable a_snap prev before word e f = (97 ∷ 64 ∷ 97 ∷ [], full (97 ∷ []) (97 ∷ []) 64 refl path-a name-a)
+fillable a_group prev before word e f = (97 ∷ 64 ∷ 97 ∷ [], full-group (97 ∷ []) ((97 ∷ []) ∷ []) path-a group-a)
 fillable a_mark prev before word e f = (97 ∷ 35 ∷ 97 ∷ [], full (97 ∷ []) (97 ∷ []) 35 refl path-a name-a)
 fillable same_snap prev before word e f =
     let set = named-set prev before word e f in

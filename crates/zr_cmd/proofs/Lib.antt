@@ -4,3 +4,4 @@ pub mod Fronts
 pub mod Spelling
 pub mod Longest
 pub mod Calls
+pub mod Commas

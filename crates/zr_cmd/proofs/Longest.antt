@@ -68,7 +68,7 @@ whole-from f words n ps is same all parts =
 abbrev pub forms : List Form
 forms =
     form.Sets ∷ form.Versions ∷ form.Holds ∷ form.Snapshot ∷ form.Hold ∷ form.Release ∷ form.BookmarkSnap ∷ form.BookmarkMark
-    ∷ form.DestroySnap ∷ form.DestroyMark ∷ form.Create ∷ form.SendFull ∷ form.SendFrom ∷ form.Receive ∷ form.ReceiveForced ∷ form.Abort ∷ []
+    ∷ form.DestroySnaps ∷ form.DestroyMark ∷ form.Create ∷ form.SendFull ∷ form.SendFrom ∷ form.Receive ∷ form.ReceiveForced ∷ form.Abort ∷ []
 
 -- the place of a form in the table
 abbrev pub place_of : Form → ℕ
@@ -80,7 +80,7 @@ place_of form.Hold = 4
 place_of form.Release = 5
 place_of form.BookmarkSnap = 6
 place_of form.BookmarkMark = 7
-place_of form.DestroySnap = 8
+place_of form.DestroySnaps = 8
 place_of form.DestroyMark = 9
 place_of form.Create = 10
 place_of form.SendFull = 11
@@ -98,7 +98,7 @@ in-table form.Hold = omega arith
 in-table form.Release = omega arith
 in-table form.BookmarkSnap = omega arith
 in-table form.BookmarkMark = omega arith
-in-table form.DestroySnap = omega arith
+in-table form.DestroySnaps = omega arith
 in-table form.DestroyMark = omega arith
 in-table form.Create = omega arith
 in-table form.SendFull = omega arith
@@ -116,7 +116,7 @@ at-own form.Hold = refl
 at-own form.Release = refl
 at-own form.BookmarkSnap = refl
 at-own form.BookmarkMark = refl
-at-own form.DestroySnap = refl
+at-own form.DestroySnaps = refl
 at-own form.DestroyMark = refl
 at-own form.Create = refl
 at-own form.SendFull = refl

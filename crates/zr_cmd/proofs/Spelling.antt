@@ -8,7 +8,7 @@ use Rattle.zr_cmd.specs.declared.forms.ZfsCall.{ZfsCall}
 use Rattle.zr_cmd.specs.declared.forms.ZfsCall.TheVariants as call
 use Rattle.zr_cmd.specs.declared.forms.Form.{Form}
 use Rattle.zr_cmd.specs.declared.forms.Form.TheVariants as form
-use Rattle.zr_cmd.proofs.Cut.{full, job-tag, set-of}
+use Rattle.zr_cmd.proofs.Cut.{full, full-group, group-spelled, job-tag, set-of}
 use Rattle.zr_cmd.proofs.Fronts.{Along, is_chain}
 
 -- the form of a call
@@ -21,7 +21,7 @@ form_of (call.One (cmd.Hold kind job path name)) = form.Hold
 form_of (call.One (cmd.Release kind job path name)) = form.Release
 form_of (call.One (cmd.Bookmark path (version.Snap name) mark)) = form.BookmarkSnap
 form_of (call.One (cmd.Bookmark path (version.Mark name) mark)) = form.BookmarkMark
-form_of (call.One (cmd.DestroySnap path name)) = form.DestroySnap
+form_of (call.One (cmd.DestroySnaps path names)) = form.DestroySnaps
 form_of (call.One (cmd.DestroyMark path mark)) = form.DestroyMark
 form_of (call.One (cmd.Create path)) = form.Create
 form_of (call.One (cmd.Transfer transfer)) = form.Sets
@@ -42,7 +42,7 @@ chained form.Hold = refl
 chained form.Release = refl
 chained form.BookmarkSnap = refl
 chained form.BookmarkMark = refl
-chained form.DestroySnap = refl
+chained form.DestroySnaps = refl
 chained form.DestroyMark = refl
 chained form.Create = refl
 chained form.SendFull = refl
@@ -71,7 +71,7 @@ written (call.One (cmd.Bookmark path (version.Snap name) mark)) b n =
     (refl, (full path name 64 refl n.0 n.1, ((full path mark 35 refl n.0 n.2, set-of path mark 35 refl n.0 ∙ sym (set-of path name 64 refl n.0)), tt)))
 written (call.One (cmd.Bookmark path (version.Mark name) mark)) b n =
     (refl, (full path name 35 refl n.0 n.1, ((full path mark 35 refl n.0 n.2, set-of path mark 35 refl n.0 ∙ sym (set-of path name 35 refl n.0)), tt)))
-written (call.One (cmd.DestroySnap path name)) b n = (refl, (full path name 64 refl n.0 n.1, tt))
+written (call.One (cmd.DestroySnaps path names)) b n = (refl, (full-group path names n.0 n.1, tt))
 written (call.One (cmd.DestroyMark path mark)) b n = (refl, (full path mark 35 refl n.0 n.1, tt))
 written (call.One (cmd.Create path)) b n = (refl, (refl, (refl, (refl, (refl, (n, tt))))))
 written (call.One (cmd.Transfer transfer)) b n = absurd n
@@ -96,7 +96,7 @@ all-written (call.One (cmd.Hold kind job path name)) n = refl
 all-written (call.One (cmd.Release kind job path name)) n = refl
 all-written (call.One (cmd.Bookmark path (version.Snap name) mark)) n = refl
 all-written (call.One (cmd.Bookmark path (version.Mark name) mark)) n = refl
-all-written (call.One (cmd.DestroySnap path name)) n = refl
+all-written (call.One (cmd.DestroySnaps path names)) n = refl
 all-written (call.One (cmd.DestroyMark path mark)) n = refl
 all-written (call.One (cmd.Create path)) n = refl
 all-written (call.One (cmd.Transfer transfer)) n = absurd n
@@ -171,7 +171,7 @@ exact form.BookmarkSnap b at a =
     record { same = cons a.0 (cons a.1.0.spelled (cons (same-set (at 2) (at 1) 35 a.1.1.0.0 a.1.1.0.1) refl)); named = (a.1.0.is_path, a.1.0.is_name, a.1.1.0.0.is_name) }
 exact form.BookmarkMark b at a =
     record { same = cons a.0 (cons a.1.0.spelled (cons (same-set (at 2) (at 1) 35 a.1.1.0.0 a.1.1.0.1) refl)); named = (a.1.0.is_path, a.1.0.is_name, a.1.1.0.0.is_name) }
-exact form.DestroySnap b at a = record { same = cons a.0 (cons a.1.0.spelled refl); named = (a.1.0.is_path, a.1.0.is_name) }
+exact form.DestroySnaps b at a = record { same = cons a.0 (cons (group-spelled (at 1) a.1.0) refl); named = (a.1.0.is_path, a.1.0.is_group) }
 exact form.DestroyMark b at a = record { same = cons a.0 (cons a.1.0.spelled refl); named = (a.1.0.is_path, a.1.0.is_name) }
 exact form.Create b at a =
     record { same = cons a.0 (cons a.1.0 (cons a.1.1.0 (cons a.1.1.1.0 (cons a.1.1.1.1.0 refl)))); named = a.1.1.1.1.1.0 }

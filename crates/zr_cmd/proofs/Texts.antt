@@ -1,6 +1,6 @@
 use Rattle.std.proofs.Common.{◌≡◌, ◌==◌, ◌&&◌, ◌||◌, ℕ, zero, suc, ◌<◌, Bool, true, false, not, List, [], ◌∷◌, ◌++◌, length, slice_index, refl, arith, lit<}
 use Rattle.std.specs.Prelude.{if◌then◌else◌}
-use Rattle.std.specs.List.{AllByRecursion, list_all}
+use Rattle.std.specs.List.{AllByRecursion, join_with_byte, list_all}
 use Rattle.std.proofs.lemmas.Bool.Decides.{nat_tests}
 use Rattle.std.proofs.lemmas.Str.{IsUtf8-from_ascii, IsAscii-append}
 use Rattle.std.specs.Str.{IsUtf8, IsAscii}
@@ -11,7 +11,7 @@ use Rattle.zr_names.specs.declared.marks.TagKind.TheVariants.{Step, Last}
 use Rattle.zr_cmd.specs.Forms.{is_sign}
 use Rattle.zr_command.specs.declared.command.Cmd.{Cmd}
 use Rattle.zr_command.specs.declared.command.Cmd.TheVariants as cmd
-use Rattle.zr_cmd.specs.Words.{AreNamed, IsJob, IsNamed, IsPath, argv_words, words_of}
+use Rattle.zr_cmd.specs.Words.{AreNamed, IsGroup, IsJob, IsNamed, IsPath, IsVersion, argv_words, words_of}
 use Rattle.zr_cmd.specs.declared.argv.Argv.TheVariants as argv
 use Rattle.zr_cmd.specs.declared.forms.ZfsCall.TheVariants as call
 
@@ -51,6 +51,23 @@ not-not false e = cc
 pub name-plain : (limit : ℕ) (text : List ℕ) → IsName name_is_bad limit text → ArePlain text
 name-plain limit text name = plain-from text (λ k inside. name_byte-plain (slice_index text k) (not-not (is_name_byte (slice_index text k)) (name.no_place_bad k inside)))
 
+-- a text without commas
+abbrev pub NoComma : List ℕ → Type 0
+NoComma text = AllByRecursion (λ b. (b == 44) ≡ false) text
+
+no-comma-from : (xs : List ℕ) → ((k : ℕ) → k < length xs → (slice_index xs k == 44) ≡ false) → NoComma xs
+no-comma-from [] h = tt
+no-comma-from (x ∷ xs) h =
+    let first : (x == 44) ≡ false = h 0 (omega arith) in
+    (first, no-comma-from xs (λ k inside. h (suc k) (omega arith)))
+
+name_byte-no-comma : (b : ℕ) → is_name_byte b ≡ true → (b == 44) ≡ false
+name_byte-no-comma b e = grind (arith, nat_tests)
+
+-- the name of a snapshot has none
+pub no-comma : (text : List ℕ) → IsVersion text → NoComma text
+no-comma text name = no-comma-from text (λ k inside. name_byte-no-comma (slice_index text k) (not-not (is_name_byte (slice_index text k)) (name.no_place_bad k inside)))
+
 plain-ascii : (xs : List ℕ) → ArePlain xs → IsAscii xs
 plain-ascii [] p i = lit< tt
 plain-ascii (x ∷ xs) p zero = p.0.0
@@ -84,6 +101,19 @@ front-bytes : (kind : TagKind) → list_all is_name_byte (tag_front kind) ≡ tr
 front-bytes Step = refl
 front-bytes Last = refl
 
+names-ascii : (names : List (List ℕ)) → AllByRecursion (λ name. IsVersion name) names → IsAscii (join_with_byte 44 names)
+names-ascii [] each = λ i. lit< tt
+names-ascii (name ∷ []) each = plain-ascii name (name-plain 255 name each.0)
+names-ascii (name ∷ next ∷ names) each =
+    IsAscii-append name (44 ∷ join_with_byte 44 (next ∷ names)) (plain-ascii name (name-plain 255 name each.0)) (IsAscii-append (44 ∷ []) (join_with_byte 44 (next ∷ names)) (one-ascii 44 (lit< tt)) (names-ascii (next ∷ names) each.1))
+
+-- and a path with the names of a group
+pub utf8_group : (path : List ℕ) (names : List (List ℕ)) → IsPath path → AllByRecursion (λ name. IsVersion name) names → IsUtf8 ((path ++ 64 ∷ []) ++ join_with_byte 44 names)
+utf8_group path names p each =
+    let at : IsAscii (64 ∷ []) = one-ascii 64 (lit< tt) in
+    IsUtf8-from_ascii ((path ++ 64 ∷ []) ++ join_with_byte 44 names)
+    (IsAscii-append (path ++ 64 ∷ []) (join_with_byte 44 names) (IsAscii-append path (64 ∷ []) (plain-ascii path (path-plain path p)) at) (names-ascii names each))
+
 -- and the tag of a job
 pub utf8_tag : (kind : TagKind) (job : List ℕ) → IsJob job → IsUtf8 (tag_text kind job)
 utf8_tag kind job name =
@@ -98,7 +128,7 @@ one_words program (cmd.Snapshot path name) n = refl
 one_words program (cmd.Hold kind job path name) n = refl
 one_words program (cmd.Release kind job path name) n = refl
 one_words program (cmd.Bookmark path from mark) n = refl
-one_words program (cmd.DestroySnap path name) n = refl
+one_words program (cmd.DestroySnaps path names) n = refl
 one_words program (cmd.DestroyMark path mark) n = refl
 one_words program (cmd.Create path) n = refl
 one_words program (cmd.Transfer transfer) n = absurd n
@@ -112,7 +142,7 @@ one_named (cmd.Snapshot path name) n = n
 one_named (cmd.Hold kind job path name) n = n
 one_named (cmd.Release kind job path name) n = n
 one_named (cmd.Bookmark path from mark) n = n
-one_named (cmd.DestroySnap path name) n = n
+one_named (cmd.DestroySnaps path names) n = n
 one_named (cmd.DestroyMark path mark) n = n
 one_named (cmd.Create path) n = n
 one_named (cmd.Transfer transfer) n = absurd n

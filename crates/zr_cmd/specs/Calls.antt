@@ -21,7 +21,7 @@ form_for words =
     else (if bytes_eq (word_at words 0) (codes "hold") then form.Hold
     else (if bytes_eq (word_at words 0) (codes "release") then form.Release
     else (if bytes_eq (word_at words 0) (codes "bookmark") then (if is_snap words 1 then form.BookmarkSnap else form.BookmarkMark)
-    else (if bytes_eq (word_at words 0) (codes "destroy") then (if is_snap words 1 then form.DestroySnap else form.DestroyMark)
+    else (if bytes_eq (word_at words 0) (codes "destroy") then (if is_snap words 1 then form.DestroySnaps else form.DestroyMark)
     else (if bytes_eq (word_at words 0) (codes "create") then form.Create
     else (if bytes_eq (word_at words 0) (codes "send") then (if length words == 2 then form.SendFull else form.SendFrom)
     else (if length words == 3 then form.Abort

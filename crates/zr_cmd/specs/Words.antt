@@ -1,7 +1,9 @@
 use Rattle.std.specs.Prelude.{◌≡◌, ◌<◌, ◌≤◌, ℕ, Bool, true, false, List, [], ◌∷◌, ◌++◌, Result, Ok, Err, codes, length, take, ⊤}
+use Rattle.std.specs.List.{AllByRecursion, join_with_byte}
 use Rattle.zr_names.specs.Marks.{tag_text}
 use Rattle.zr_names.specs.Names.{IsName, path_is_bad, name_is_bad}
 use Rattle.zr_names.specs.declared.names.TheConstants.{PATH_LIMIT, NAME_LIMIT, JOB_LIMIT}
+use Rattle.zr_command.specs.Group.{AreNames}
 use Rattle.zr_command.specs.declared.command.Base.{Base}
 use Rattle.zr_command.specs.declared.command.Base.TheVariants as base
 use Rattle.zr_command.specs.declared.command.Cmd.{Cmd}
@@ -32,6 +34,10 @@ versions_words =
 abbrev pub snap_word : List ℕ → List ℕ → List ℕ
 snap_word path name = path ++ 64 ∷ name
 
+-- the path, an `@` and the names of a group, parted by commas
+abbrev pub group_word : List ℕ → List (List ℕ) → List ℕ
+group_word path names = path ++ 64 ∷ join_with_byte 44 names
+
 -- the full name of a bookmark, with a `#`
 abbrev pub mark_word : List ℕ → List ℕ → List ℕ
 mark_word path name = path ++ 35 ∷ name
@@ -55,7 +61,7 @@ words_of (call.One (cmd.Snapshot path name)) = codes "snapshot" ∷ snap_word pa
 words_of (call.One (cmd.Hold kind job path name)) = codes "hold" ∷ tag_text kind job ∷ snap_word path name ∷ []
 words_of (call.One (cmd.Release kind job path name)) = codes "release" ∷ tag_text kind job ∷ snap_word path name ∷ []
 words_of (call.One (cmd.Bookmark path from mark)) = codes "bookmark" ∷ version_word path from ∷ mark_word path mark ∷ []
-words_of (call.One (cmd.DestroySnap path name)) = codes "destroy" ∷ snap_word path name ∷ []
+words_of (call.One (cmd.DestroySnaps path names)) = codes "destroy" ∷ group_word path names ∷ []
 words_of (call.One (cmd.DestroyMark path mark)) = codes "destroy" ∷ mark_word path mark ∷ []
 words_of (call.One (cmd.Create path)) =
     codes "create" ∷ codes "-o" ∷ codes "zrepl:placeholder=on" ∷ codes "-o" ∷ codes "mountpoint=none" ∷ path ∷ []
@@ -71,6 +77,11 @@ IsPath text = IsName path_is_bad PATH_LIMIT text
 -- the name of a snapshot or a bookmark
 abbrev pub IsVersion : List ℕ → Type 0
 IsVersion text = IsName name_is_bad NAME_LIMIT text
+
+-- names of snapshots that one command names together
+pub record IsGroup (names : List (List ℕ)) : Type 0 where
+  pub each : AllByRecursion (λ name. IsVersion name) names
+  pub group : AreNames names
 
 abbrev pub IsJob : List ℕ → Type 0
 IsJob text = IsName name_is_bad JOB_LIMIT text
@@ -88,7 +99,7 @@ IsNamed (call.One (cmd.Snapshot path name)) = IsPath path × IsVersion name
 IsNamed (call.One (cmd.Hold kind job path name)) = IsJob job × IsPath path × IsVersion name
 IsNamed (call.One (cmd.Release kind job path name)) = IsJob job × IsPath path × IsVersion name
 IsNamed (call.One (cmd.Bookmark path from mark)) = IsPath path × IsVersionName from × IsVersion mark
-IsNamed (call.One (cmd.DestroySnap path name)) = IsPath path × IsVersion name
+IsNamed (call.One (cmd.DestroySnaps path names)) = IsPath path × IsGroup names
 IsNamed (call.One (cmd.DestroyMark path mark)) = IsPath path × IsVersion mark
 IsNamed (call.One (cmd.Create path)) = IsPath path
 IsNamed (call.One (cmd.Transfer transfer)) = ⊥

@@ -1,17 +1,19 @@
 ghost use Rattle.std.specs.Prelude.{◌≡◌, ◌≢◌, ◌<◌, [], ◌∷◌, ◌++◌, IfOk, map, OnOk};
+ghost use Rattle.std.specs.List.{AllByRecursion, join_with_byte};
 ghost use Rattle.std.specs.Str.{IsUtf8};
 ghost use Rattle.std.specs.String.{string_bytes};
 ghost use Rattle.zr_names.specs.Marks.{tag_text};
 ghost use Rattle.zr_command.specs.declared.command.Cmd.TheVariants as command;
 ghost use Rattle.zr_command.specs.declared.command.Transfer.{Transfer as TransferValue};
 ghost use Rattle.zr_cmd.specs.declared.forms.ZfsCall.TheVariants as call;
-ghost use Rattle.zr_cmd.specs.Words.{AreNamed, argv_words, IsJob, IsNamed, IsPath, IsVersion, IsVersionName, mark_word, send_of, sets_words, snap_word, version_word, versions_words, words_of};
+ghost use Rattle.zr_cmd.specs.Steps.{with_commas};
+ghost use Rattle.zr_cmd.specs.Words.{AreNamed, argv_words, group_word, IsGroup, IsJob, IsNamed, IsPath, IsVersion, IsVersionName, mark_word, send_of, sets_words, snap_word, version_word, versions_words, words_of};
 
 use crate::cutting::tag_front;
 use crate::words::Words;
 use std::alloc::{AllocError, Global};
 use std::str;
-use zr_command::{Base, Cmd, Transfer, VersionName};
+use zr_command::{Base, Cmd, Names, Transfer, VersionName};
 use zr_names::{JobName, MarkName, NoMemory, Path, SnapName, TagKind};
 
 /// Why words are no call.
@@ -264,6 +266,57 @@ fn push_with_snap(
     push_snap(alloc, words, path, name)
 }
 
+/// Puts names behind the first, each after a comma.
+fn push_others(text: &mut Vec<u8>, names: &[SnapName]) -> Result<(), AllocError>
+    ensures text { OnOk result (text.new.items ≡ text.old.items ++ with_commas names.now) }
+    ensures named { OnOk result (AllByRecursion IsVersion names.now) }
+{
+    for name in names {
+        text.push(b',')?;
+        text.extend_from_slice(name.as_bytes())?;
+    }
+    Ok(())
+}
+
+/// Puts names behind a path and an `@`, with a comma between each two.
+fn push_names(text: &mut Vec<u8>, names: &Names) -> Result<(), AllocError>
+    ensures text { OnOk result (text.new.items ≡ text.old.items ++ join_with_byte 44 names.now) }
+    ensures named { OnOk result (IsGroup names.now) }
+{
+    let Some((first, others)) = names.as_slice().split_first() else {
+        unreachable!()
+    };
+    text.extend_from_slice(first.as_bytes())?;
+    push_others(text, others)?;
+    Ok(())
+}
+
+/// The names of a group of snapshots and the path of their dataset as one word.
+fn group_word(alloc: Global, path: &Path, names: &Names) -> Result<String, AllocError>
+    ensures word { IfOk result (λ word. string_bytes word ≡ group_word path.now names.now) }
+    ensures named { OnOk result (IsPath path.now × IsGroup names.now) }
+{
+    let mut text = Vec::from_slice(alloc, path.as_bytes())?;
+    text.push(b'@')?;
+    push_names(&mut text, names)?;
+    word_of(alloc, text.as_slice())
+}
+
+/// Takes the words of a destroy of snapshots.
+fn push_destroy(
+    alloc: Global,
+    words: &mut Words,
+    path: &Path,
+    names: &Names,
+) -> Result<(), AllocError>
+    ensures words { OnOk result
+        (words.new ≡ words.old ++ words_of (call.One (command.DestroySnaps path.now names.now))) }
+    ensures named { OnOk result (IsNamed (call.One (command.DestroySnaps path.now names.now))) }
+{
+    words.push_all(alloc, &["destroy"])?;
+    words.push(group_word(alloc, path, names)?)
+}
+
 /// Takes these words and the full name of a bookmark.
 fn push_with_mark(
     alloc: Global,
@@ -332,7 +385,7 @@ fn push_words(alloc: Global, words: &mut Words, cmd: &Cmd) -> Result<(), AllocEr
             push_hold(alloc, words, "release", *kind, job, path, name)
         }
         Cmd::Bookmark(path, from, mark) => push_bookmark(alloc, words, path, from, mark),
-        Cmd::DestroySnap(path, name) => push_with_snap(alloc, words, &["destroy"], path, name),
+        Cmd::DestroySnaps(path, names) => push_destroy(alloc, words, path, names),
         Cmd::DestroyMark(path, mark) => push_with_mark(alloc, words, &["destroy"], path, mark),
         Cmd::Create(path) => push_with_path(alloc, words, &CREATE, path),
         Cmd::Transfer(_) => unreachable!(),
@@ -388,7 +441,7 @@ pub fn argv_of(alloc: Global, program: &str, cmd: &Cmd) -> Result<Argv, NoMemory
         | Cmd::Hold(_, _, _, _)
         | Cmd::Release(_, _, _, _)
         | Cmd::Bookmark(_, _, _)
-        | Cmd::DestroySnap(_, _)
+        | Cmd::DestroySnaps(_, _)
         | Cmd::DestroyMark(_, _)
         | Cmd::Create(_)
         | Cmd::Abort(_) => one_of(alloc, program, cmd)?,

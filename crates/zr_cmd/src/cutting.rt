@@ -1,12 +1,14 @@
-ghost use Rattle.std.specs.Prelude.{◌≡◌, ◌∷◌, ◌++◌, IfOk, true};
+ghost use Rattle.std.specs.Prelude.{◌≡◌, [], ◌∷◌, ◌++◌, ◌==◌, ◌+◌, ◌≤◌, IfOk, MatchOption, length, position, true};
+ghost use Rattle.std.specs.Option.{option_map_or};
 ghost use Rattle.std.specs.Bool.{Decides};
-ghost use Rattle.std.specs.List.{position_or_len};
+ghost use Rattle.std.specs.List.{AllByRecursion, position_or_len};
 ghost use Rattle.zr_names.specs.Marks.{tag_front};
-ghost use Rattle.zr_cmd.specs.Forms.{IsFull, is_sign, IsJobTag, job_part, kind_part, name_part, set_part, word_at};
-ghost use Rattle.zr_cmd.specs.Steps.{texts};
-ghost use Rattle.zr_cmd.specs.Words.{IsJob, IsPath, IsVersion};
+ghost use Rattle.zr_cmd.specs.Forms.{IsFull, IsFullGroup, is_sign, IsJobTag, job_part, kind_part, name_part, names_in, set_part, word_at};
+ghost use Rattle.zr_cmd.specs.Steps.{ReadsGroup, texts};
+ghost use Rattle.zr_cmd.specs.Words.{IsGroup, IsJob, IsPath, IsVersion};
 
 use std::alloc::Global;
+use zr_command::{Names, read_names};
 use zr_names::{
     JobName, MarkName, NameFault, NoMemory, Path, SnapName, TagKind, read_job, read_mark,
     read_path, read_snap,
@@ -147,6 +149,92 @@ pub(crate) fn is_full(alloc: Global, sign: u8, word: &[u8]) -> Result<bool, NoMe
             && is_path(alloc, set_part(word))?
             && is_version(alloc, name_part(word))?,
     )
+}
+
+/// The place of the first comma.
+fn comma_place(text: &[u8]) -> Option<usize>
+    ensures { result ≡ position (λ b. b == 44) text.now }
+{
+    text.iter().position(|b| *b == b',')
+}
+
+/// The first of the texts between commas, and what stands behind it.
+fn first_name(text: &[u8]) -> (&[u8], Option<&[u8]>)
+    ensures names { names_in text.now
+        ≡ result.0.now ∷ option_map_or (λ rest. names_in rest.now) result.1 [] }
+    ensures shorter { option_map_or (λ rest. length rest.now + 1) result.1 0 ≤ length text.now }
+{
+    match comma_place(text) {
+        Some(place) => (&text[..place], Some(&text[place + 1..])),
+        None => (text, None),
+    }
+}
+
+/// The name of a snapshot that a text is, where it is one.
+fn read_version(alloc: Global, text: &[u8]) -> Result<Option<SnapName>, NoMemory>
+    ensures { IfOk result (λ name.
+        MatchOption name (IsVersion text.now → ⊥)
+        (λ name. (name ≡ text.now) × IsVersion text.now)) }
+{
+    match read_snap(alloc, text) {
+        Ok(name) => Ok(Some(name)),
+        Err(NameFault::Empty | NameFault::BadByte(_) | NameFault::TooLong(_)) => Ok(None),
+        Err(NameFault::NoMemory) => Err(NoMemory),
+    }
+}
+
+/// The names of snapshots in a text, parted by commas, where each is one.
+fn names_in(alloc: Global, text: &[u8]) -> Result<Option<Vec<SnapName>>, NoMemory>
+    ensures { IfOk result (λ names.
+        MatchOption names (AllByRecursion IsVersion (names_in text.now) → ⊥)
+        (λ names. (names.items ≡ names_in text.now) × AllByRecursion IsVersion names.items)) }
+{
+    let mut names = Vec::new(alloc);
+    let mut rest = Some(text);
+    while let Some(part) = rest {
+        let (name, others) = first_name(part);
+        let Some(name) = read_version(alloc, name)? else {
+            return Ok(None);
+        };
+        names.push(name)?;
+        rest = others;
+    }
+    Ok(Some(names))
+}
+
+/// The group of names that a text is, parted by commas, where it is one.
+fn read_group(alloc: Global, text: &[u8]) -> Result<Option<Names>, NoMemory>
+    ensures { IfOk result (ReadsGroup text.now) }
+{
+    match names_in(alloc, text)? {
+        Some(names) => Ok(read_names(names).ok()),
+        None => Ok(None),
+    }
+}
+
+/// The group of names that a text is.
+pub(crate) fn group_of(alloc: Global, text: &[u8]) -> Result<Names, NoMemory>
+    requires { IsGroup (names_in text.now) }
+    ensures { IfOk result (λ names. names ≡ names_in text.now) }
+{
+    match read_group(alloc, text)? {
+        Some(names) => Ok(names),
+        None => unreachable!(),
+    }
+}
+
+/// Whether a text is a group of names.
+fn is_group(alloc: Global, text: &[u8]) -> Result<bool, NoMemory>
+    ensures { IfOk result (λ yes. Decides yes (IsGroup (names_in text.now))) }
+{
+    Ok(read_group(alloc, text)?.is_some())
+}
+
+/// Whether a word is the path of a dataset and a group of names.
+pub(crate) fn is_full_group(alloc: Global, word: &[u8]) -> Result<bool, NoMemory>
+    ensures { IfOk result (λ yes. Decides yes (IsFullGroup word.now)) }
+{
+    Ok(has_sign(b'@', word) && is_path(alloc, set_part(word))? && is_group(alloc, name_part(word))?)
 }
 
 /// Whether a word begins as a job's tag of its kind.

@@ -23,6 +23,8 @@ pub enum Part {
     Path,
     /// The full name of a snapshot.
     Snap,
+    /// The path of a dataset and the names of some of its snapshots.
+    Group,
     /// The full name of a bookmark.
     Mark,
     /// The full name of a snapshot of the dataset in the word before.
@@ -44,7 +46,7 @@ pub enum Form {
     Release,
     BookmarkSnap,
     BookmarkMark,
-    DestroySnap,
+    DestroySnaps,
     DestroyMark,
     Create,
     SendFull,
@@ -63,7 +65,7 @@ pub(crate) const FORMS: [Form; 16] = [
     Form::Release,
     Form::BookmarkSnap,
     Form::BookmarkMark,
-    Form::DestroySnap,
+    Form::DestroySnaps,
     Form::DestroyMark,
     Form::Create,
     Form::SendFull,
@@ -110,7 +112,7 @@ const BOOKMARK_SNAP: [Part; 3] = [Part::Fixed("bookmark"), Part::Snap, Part::Mar
 
 const BOOKMARK_MARK: [Part; 3] = [Part::Fixed("bookmark"), Part::Mark, Part::MarkOfSame];
 
-const DESTROY_SNAP: [Part; 2] = [Part::Fixed("destroy"), Part::Snap];
+const DESTROY_SNAPS: [Part; 2] = [Part::Fixed("destroy"), Part::Group];
 
 const DESTROY_MARK: [Part; 2] = [Part::Fixed("destroy"), Part::Mark];
 
@@ -166,7 +168,7 @@ impl Form {
             Form::Release => &RELEASE,
             Form::BookmarkSnap => &BOOKMARK_SNAP,
             Form::BookmarkMark => &BOOKMARK_MARK,
-            Form::DestroySnap => &DESTROY_SNAP,
+            Form::DestroySnaps => &DESTROY_SNAPS,
             Form::DestroyMark => &DESTROY_MARK,
             Form::Create => &CREATE,
             Form::SendFull => &SEND_FULL,

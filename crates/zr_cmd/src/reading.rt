@@ -8,8 +8,8 @@ ghost use Rattle.zr_cmd.specs.declared.forms.Form.TheVariants as form;
 
 use crate::argv::ArgvFault;
 use crate::cutting::{
-    is_full, is_job_tag, is_path, is_same_set, job_of, job_part, kind_part, mark_of, name_part,
-    path_of, set_part, snap_of, word_at,
+    group_of, is_full, is_full_group, is_job_tag, is_path, is_same_set, job_of, job_part,
+    kind_part, mark_of, name_part, path_of, set_part, snap_of, word_at,
 };
 use crate::forms::{FORMS, Form, Part, ZfsCall};
 use std::alloc::Global;
@@ -24,6 +24,7 @@ fn fits(alloc: Global, part: Part, before: &[u8], word: &[u8]) -> Result<bool, N
         Part::Fixed(text) => Ok(word == text.as_bytes()),
         Part::Path => is_path(alloc, word),
         Part::Snap => is_full(alloc, b'@', word),
+        Part::Group => is_full_group(alloc, word),
         Part::Mark => is_full(alloc, b'#', word),
         Part::SnapOfSame => Ok(is_full(alloc, b'@', word)? && is_same_set(word, before)),
         Part::MarkOfSame => Ok(is_full(alloc, b'#', word)? && is_same_set(word, before)),
@@ -175,14 +176,14 @@ fn abort_as(alloc: Global, words: &[String]) -> Result<ZfsCall, NoMemory>
     Ok(ZfsCall::One(Cmd::Abort(path)))
 }
 
-/// The call of these words of a destroy of a snapshot.
-fn destroy_snap_as(alloc: Global, words: &[String]) -> Result<ZfsCall, NoMemory>
-    requires { IsNamed (read_as form.DestroySnap (texts words.now)) }
-    ensures { IfOk result (λ given. given ≡ read_as form.DestroySnap (texts words.now)) }
+/// The call of these words of a destroy of snapshots.
+fn destroy_snaps_as(alloc: Global, words: &[String]) -> Result<ZfsCall, NoMemory>
+    requires { IsNamed (read_as form.DestroySnaps (texts words.now)) }
+    ensures { IfOk result (λ given. given ≡ read_as form.DestroySnaps (texts words.now)) }
 {
     let path = set_at(alloc, words, 1)?;
-    let name = snap_at(alloc, words, 1)?;
-    Ok(ZfsCall::One(Cmd::DestroySnap(path, name)))
+    let names = group_of(alloc, name_part(word_at(words, 1)))?;
+    Ok(ZfsCall::One(Cmd::DestroySnaps(path, names)))
 }
 
 /// The call of these words of a destroy of a bookmark.
@@ -229,7 +230,7 @@ fn call_as(alloc: Global, form: Form, words: &[String]) -> Result<ZfsCall, NoMem
         Form::Release => release_as(alloc, words),
         Form::BookmarkSnap => bookmark_snap_as(alloc, words),
         Form::BookmarkMark => bookmark_mark_as(alloc, words),
-        Form::DestroySnap => destroy_snap_as(alloc, words),
+        Form::DestroySnaps => destroy_snaps_as(alloc, words),
         Form::DestroyMark => destroy_mark_as(alloc, words),
         Form::Create => create_as(alloc, words),
         Form::SendFull => send_full_as(alloc, words),

@@ -1,3 +1,4 @@
+pub mod Group
 pub mod Kinds
 pub mod Listings
 pub mod Names

@@ -1,5 +1,6 @@
 ghost use Rattle.std.specs.Prelude.{◌≡◌, IfOk};
 
+use crate::names::Names;
 use crate::version::{SetRow, VersionName, VersionRow};
 use std::alloc::AllocError;
 use zr_names::{Bytes, Guid, JobName, MarkName, Path, Rows, Same, SnapName, Tag, TagKind, Unit};
@@ -43,8 +44,8 @@ pub enum Cmd {
     Release(TagKind, JobName, Path, SnapName),
     /// Makes a bookmark of a snapshot, or of a bookmark, of the same dataset (zfs-bookmark(8)).
     Bookmark(Path, VersionName, MarkName),
-    /// Destroys a snapshot (zfs-destroy(8)).
-    DestroySnap(Path, SnapName),
+    /// Destroys snapshots of one dataset, those of them that are there (zfs-destroy(8)).
+    DestroySnaps(Path, Names),
     /// Destroys a bookmark (zfs-destroy(8)).
     DestroyMark(Path, MarkName),
     /// Makes a placeholder: a dataset without a mount point, with the property `zrepl:placeholder` (zfs-create(8)).
@@ -136,7 +137,7 @@ impl Cmd {
             | Cmd::Hold(_, _, _, _)
             | Cmd::Release(_, _, _, _)
             | Cmd::Bookmark(_, _, _)
-            | Cmd::DestroySnap(_, _)
+            | Cmd::DestroySnaps(_, _)
             | Cmd::DestroyMark(_, _)
             | Cmd::Create(_)
             | Cmd::Abort(_) => self.same(),
@@ -215,7 +216,7 @@ impl Same for Cmd {
             Cmd::Hold(kind, job, path, name) => same_hold(*kind, job, path, name),
             Cmd::Release(kind, job, path, name) => same_release(*kind, job, path, name),
             Cmd::Bookmark(path, version, mark) => same_bookmark(path, version, mark),
-            Cmd::DestroySnap(path, name) => Ok(Cmd::DestroySnap(path.same()?, name.same()?)),
+            Cmd::DestroySnaps(path, names) => Ok(Cmd::DestroySnaps(path.same()?, names.same()?)),
             Cmd::DestroyMark(path, mark) => Ok(Cmd::DestroyMark(path.same()?, mark.same()?)),
             Cmd::Create(path) => Ok(Cmd::Create(path.same()?)),
             Cmd::Transfer(transfer) => Ok(Cmd::Transfer(transfer.same()?)),

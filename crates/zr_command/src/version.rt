@@ -31,6 +31,15 @@ pub struct VersionRow {
     pub refs: u64,
 }
 
+/// What a resume token says of the stream that it resumes (zfs-send(8), `-nvt`).
+#[derive(Clone, Copy)]
+pub struct TokenInfo {
+    /// That of the snapshot that is sent.
+    pub to: Guid,
+    /// That of the snapshot or bookmark which the stream goes on from; none where it is in full.
+    pub from: Option<Guid>,
+}
+
 impl Same for VersionName {
     fn same(&self) -> Result<VersionName, AllocError> {
         match self {

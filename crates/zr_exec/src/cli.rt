@@ -97,7 +97,7 @@ fn read_reply(alloc: Global, cmd: &Cmd, out: &[u8]) -> Answer
         | Cmd::Hold(_, _, _, _)
         | Cmd::Release(_, _, _, _)
         | Cmd::Bookmark(_, _, _)
-        | Cmd::DestroySnap(_, _)
+        | Cmd::DestroySnaps(_, _)
         | Cmd::DestroyMark(_, _)
         | Cmd::Create(_)
         | Cmd::Transfer(_)

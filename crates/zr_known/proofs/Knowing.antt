@@ -33,7 +33,7 @@ failed-tells pair (cmd.Snapshot path name) known = refl
 failed-tells pair (cmd.Hold kind job path name) known = refl
 failed-tells pair (cmd.Release kind job path name) known = refl
 failed-tells pair (cmd.Bookmark path version name) known = refl
-failed-tells pair (cmd.DestroySnap path name) known = refl
+failed-tells pair (cmd.DestroySnaps path names) known = refl
 failed-tells pair (cmd.DestroyMark path name) known = refl
 failed-tells pair (cmd.Create path) known = refl
 failed-tells pair (cmd.Abort path) known = refl
@@ -47,7 +47,7 @@ garbled-tells pair (cmd.Snapshot path name) line known = refl
 garbled-tells pair (cmd.Hold kind job path name) line known = refl
 garbled-tells pair (cmd.Release kind job path name) line known = refl
 garbled-tells pair (cmd.Bookmark path version name) line known = refl
-garbled-tells pair (cmd.DestroySnap path name) line known = refl
+garbled-tells pair (cmd.DestroySnaps path names) line known = refl
 garbled-tells pair (cmd.DestroyMark path name) line known = refl
 garbled-tells pair (cmd.Create path) line known = refl
 garbled-tells pair (cmd.Abort path) line known = refl
@@ -61,20 +61,20 @@ no-memory-tells pair (cmd.Snapshot path name) known = refl
 no-memory-tells pair (cmd.Hold kind job path name) known = refl
 no-memory-tells pair (cmd.Release kind job path name) known = refl
 no-memory-tells pair (cmd.Bookmark path version name) known = refl
-no-memory-tells pair (cmd.DestroySnap path name) known = refl
+no-memory-tells pair (cmd.DestroySnaps path names) known = refl
 no-memory-tells pair (cmd.DestroyMark path name) known = refl
 no-memory-tells pair (cmd.Create path) known = refl
 no-memory-tells pair (cmd.Abort path) known = refl
 no-memory-tells pair (cmd.Transfer transfer) known = refl
 
-pub destroy-tells : (pair : Pair) (path name : List ℕ) (given : Answer) (known : Known) → told_by pair (cmd.DestroySnap path name) given known ≡ known
-destroy-tells pair path name (answer.Done reply.Nothing) known = refl
-destroy-tells pair path name (answer.Done (reply.Sets rows)) known = refl
-destroy-tells pair path name (answer.Done (reply.Versions rows)) known = refl
-destroy-tells pair path name (answer.Done (reply.Holds tags)) known = refl
-destroy-tells pair path name answer.Failed known = refl
-destroy-tells pair path name (answer.Garbled line) known = refl
-destroy-tells pair path name answer.NoMemory known = refl
+pub destroy-tells : (pair : Pair) (path : List ℕ) (names : List (List ℕ)) (given : Answer) (known : Known) → told_by pair (cmd.DestroySnaps path names) given known ≡ known
+destroy-tells pair path names (answer.Done reply.Nothing) known = refl
+destroy-tells pair path names (answer.Done (reply.Sets rows)) known = refl
+destroy-tells pair path names (answer.Done (reply.Versions rows)) known = refl
+destroy-tells pair path names (answer.Done (reply.Holds tags)) known = refl
+destroy-tells pair path names answer.Failed known = refl
+destroy-tells pair path names (answer.Garbled line) known = refl
+destroy-tells pair path names answer.NoMemory known = refl
 
 not-true : (b : Bool) → (b ≡ true → ⊥) → b ≡ false
 not-true true wrong = absurd (wrong refl)

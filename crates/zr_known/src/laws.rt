@@ -29,8 +29,9 @@ pub fn what_was_not_done_tells_nothing()
         told_by pair command (answer.Garbled line) known ≡ known }
     ensures no_memory { (pair : Pair) (command : Cmd) (known : Known) →
         told_by pair command answer.NoMemory known ≡ known }
-    ensures destroy { (pair : Pair) (path name : List ℕ) (given : Answer) (known : Known) →
-        told_by pair (cmd.DestroySnap path name) given known ≡ known }
+    ensures destroy { (pair : Pair) (path : List ℕ) (names : List (List ℕ)) (given : Answer)
+        (known : Known) →
+        told_by pair (cmd.DestroySnaps path names) given known ≡ known }
 {}
 
 /// A listing replaces what it lists, and nothing else; one of another dataset tells nothing.

@@ -6,7 +6,7 @@ use Rattle.zr_listing.specs.Listing.{IsGarbled}
 use Rattle.zr_listing.specs.declared.faults.ListFault.{ListFault}
 use Rattle.zr_listing.specs.declared.faults.ListFault.TheVariants as fault
 
-zip-one : {Row : Type 0} (spells : List ℕ → Row → Type 0) (one : (line : List ℕ) (a b : Row) → spells line a → spells line b → a ≡ b) (lines : List (List ℕ)) (xs ys : List Row) → AllZip spells lines xs → AllZip spells lines ys → xs ≡ ys
+pub zip-one : {Row : Type 0} (spells : List ℕ → Row → Type 0) (one : (line : List ℕ) (a b : Row) → spells line a → spells line b → a ≡ b) (lines : List (List ℕ)) (xs ys : List Row) → AllZip spells lines xs → AllZip spells lines ys → xs ≡ ys
 zip-one spells one [] [] [] p q = refl
 zip-one spells one [] (x ∷ xs) ys p q = absurd p
 zip-one spells one [] [] (y ∷ ys) p q = absurd q
@@ -31,7 +31,7 @@ pub record GoesOn {Row : Type 0} (spells : List ℕ → Row → Type 0) (line : 
   pub spelled : spells line row
   pub some : later ≢ []
 
-walk : {Row : Type 0} (spells : List ℕ → Row → Type 0) (one : (line : List ℕ) (a b : Row) → spells line a → spells line b → a ≡ b) (earlier lines : List (List ℕ)) (line : List ℕ) (later : List (List ℕ)) (rows whole : List Row) → AllZip spells earlier rows → AllZip spells lines whole → earlier ++ line ∷ later ≡ lines ++ [] ∷ [] → (later ≡ [] → line ≢ []) → GoesOn spells line later rows whole
+pub walk : {Row : Type 0} (spells : List ℕ → Row → Type 0) (one : (line : List ℕ) (a b : Row) → spells line a → spells line b → a ≡ b) (earlier lines : List (List ℕ)) (line : List ℕ) (later : List (List ℕ)) (rows whole : List Row) → AllZip spells earlier rows → AllZip spells lines whole → earlier ++ line ∷ later ≡ lines ++ [] ∷ [] → (later ≡ [] → line ≢ []) → GoesOn spells line later rows whole
 walk spells one [] [] line later rows whole p q e there = absurd (let last : later ≡ [] = cc in let empty : line ≡ [] = cc in there last empty)
 walk spells one [] (l ∷ lines) line later [] [] p q e there = absurd q
 walk spells one [] (l ∷ lines) line later [] (y ∷ ys) p q e there =

@@ -7,3 +7,7 @@ pub mod Exact
 pub mod Sorting
 pub mod Printed
 pub mod Ordered
+pub mod Hexadecimal
+pub mod TokenLines
+pub mod TokenReading
+pub mod TokenPrinted

@@ -39,10 +39,10 @@ plain-from : (xs : List ℕ) → ((k : ℕ) → k < length xs → 32 ≤ slice_i
 plain-from xs h = from-places (λ b. 32 ≤ b) xs h
 
 -- a text lacks the byte
-abbrev Lacks : ℕ → List ℕ → Type 0
+abbrev pub Lacks : ℕ → List ℕ → Type 0
 Lacks byte text = AllByRecursion (λ b. (b == byte) ≡ false) text
 
-lacks-append : (byte : ℕ) (xs ys : List ℕ) → Lacks byte xs → Lacks byte ys → Lacks byte (xs ++ ys)
+pub lacks-append : (byte : ℕ) (xs ys : List ℕ) → Lacks byte xs → Lacks byte ys → Lacks byte (xs ++ ys)
 lacks-append byte [] ys p q = q
 lacks-append byte (x ∷ xs) ys p q = (p.0, lacks-append byte xs ys p.1 q)
 

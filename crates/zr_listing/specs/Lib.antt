@@ -7,3 +7,7 @@ pub mod Steps
 pub mod Listing
 pub mod Order
 pub mod Printing
+pub mod Token
+pub mod TokenFault
+pub mod TokenSteps
+pub mod TokenPrinting

@@ -1,11 +1,12 @@
-//! The listings of datasets, and of the snapshots and bookmarks of one dataset, as `zfs list -H -p` prints them, and of
-//! the holds of one snapshot, as `zfs holds -H` does.
+//! The listings of datasets, and of the snapshots and bookmarks of one dataset, as `zfs list -H -p` prints them, of the
+//! holds of one snapshot, as `zfs holds -H` does, and of what a resume token says, as `zfs send -nvt` does.
 #![tactic(auto)]
 
 pub use faults::ListFault;
 pub use holds::read_holds;
 pub use print::{print_holds, print_sets, print_versions};
 pub use sets::read_sets;
+pub use token::{print_token, read_token};
 pub use versions::read_versions;
 
 mod columns;
@@ -15,4 +16,5 @@ mod lines;
 mod names;
 pub mod print;
 pub mod sets;
+pub mod token;
 pub mod versions;

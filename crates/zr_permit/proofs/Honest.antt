@@ -1,7 +1,7 @@
-use Rattle.std.proofs.Common.{◌≡◌, ◌∙◌, ◌==◌, ◌&&◌, ℕ, ◌<◌, Bool, true, false, not, List, [], ◌∷◌, ◌++◌, Option, Some, None, ap, append-nil, append_assoc, arith, inl, inr, length, nat_eq, refl, subst, sym}
+use Rattle.std.proofs.Common.{◌≡◌, ◌∙◌, ◌==◌, ◌&&◌, ℕ, ◌<◌, Bool, true, false, not, List, [], ◌∷◌, ◌++◌, Option, Some, None, ap, append-nil, append_assoc, arith, get_or, inl, inr, length, nat_eq, refl, subst, sym}
 use Rattle.std.specs.Bool.{if◌then◌else◌}
 use Rattle.std.specs.Cmp.Lexicographic.{pointwise}
-use Rattle.std.specs.List.{Contains}
+use Rattle.std.specs.List.{All, Contains}
 use Rattle.std.proofs.lemmas.Bool.Decides.{nat_tests}
 use Rattle.std.proofs.lemmas.List.Elements.{Contains-append_cases, Contains-append_right, Contains-push_cases}
 use Rattle.zr_names.specs.declared.unit.Unit.{Unit}
@@ -116,28 +116,28 @@ legal-at jobs unit before (first ∷ past) turn later legal =
     subst allows (append_assoc before (first ∷ []) past) (legal-at jobs unit (before ++ first ∷ []) past turn later legal.1)
 
 -- a replication unit destroys no snapshot
-no-destroy : (pair : Option Pair) (past : Transcript) (path name : List ℕ) → Replicates pair past (cmd.DestroySnap path name) → ⊥
-no-destroy None past path name replicates = replicates
-no-destroy (Some pair) past path name replicates = replicates
+no-destroy : (pair : Option Pair) (past : Transcript) (path : List ℕ) (names : List (List ℕ)) → Replicates pair past (cmd.DestroySnaps path names) → ⊥
+no-destroy None past path names replicates = replicates
+no-destroy (Some pair) past path names replicates = replicates
 
 -- a destroy is permitted by a listing alone
-permits-listed : (jobs : JobSet) (number : ℕ) (unit_work : Work) (past : Transcript) (path name : List ℕ) → Permits jobs number unit_work past (cmd.DestroySnap path name) → WasListed (rules_by (job_at jobs number) unit_work) past path name
-permits-listed jobs number (work.PruneSource own) past path name permits = choose (listed own past) refl permits.1 where
-  choose : (told : Option (List VersionRow)) → listed own past ≡ told → Contains (doomed_in jobs number told) name → WasListed (rules_of (job_at jobs number)) past path name
-  choose None none within = absurd (no-element name within)
-  choose (Some rows) told within =
+permits-listed : (jobs : JobSet) (number : ℕ) (unit_work : Work) (past : Transcript) (path : List ℕ) (names : List (List ℕ)) → Permits jobs number unit_work past (cmd.DestroySnaps path names) → All (WasListed (rules_by (job_at jobs number) unit_work) past path) names
+permits-listed jobs number (work.PruneSource own) past path names permits = λ k d inside. choose (listed own past) refl (get_or names k d) (permits.1 k d inside) where
+  choose : (told : Option (List VersionRow)) → listed own past ≡ told → (name : List ℕ) → Contains (doomed_in jobs number told) name → WasListed (rules_of (job_at jobs number)) past path name
+  choose None none name within = absurd (no-element name within)
+  choose (Some rows) told name within =
       let on : List ℕ → Type 0 = λ p. Contains past (cmd.Versions p, answer.Done (reply.Versions rows)) in
       record {
         rows = rows;
         told = subst on (sym permits.0) (listed-turn own past rows told);
         may_go = doomed-may (rules_of (job_at jobs number)) rows name within;
       }
-permits-listed jobs number (work.Replicate source) past path name permits =
-    absurd (no-destroy (pair_of (job_at jobs number) source) past path name permits)
-permits-listed jobs number other past path name permits = absurd permits
+permits-listed jobs number (work.Replicate source) past path names permits =
+    absurd (no-destroy (pair_of (job_at jobs number) source) past path names permits)
+permits-listed jobs number other past path names permits = absurd permits
 
 -- a legal transcript destroys honestly
 pub legal-honest : (jobs : JobSet) (unit : Unit) (turns : Transcript) → Legal jobs unit turns → IsHonest jobs unit turns
-legal-honest jobs unit turns legal = λ past later path name given is.
+legal-honest jobs unit turns legal = λ past later path names given is.
     let after : Transcript → Type 0 = LegalAfter jobs unit [] in
-    permits-listed jobs unit.job unit.work past path name (legal-at jobs unit [] past (cmd.DestroySnap path name, given) later (subst after is legal)).permits
+    permits-listed jobs unit.job unit.work past path names (legal-at jobs unit [] past (cmd.DestroySnaps path names, given) later (subst after is legal)).permits

@@ -1,4 +1,4 @@
-use Rattle.std.specs.Prelude.{◌≡◌, ◌<◌, ℕ, false, List, [], ◌∷◌, ◌++◌, Contains, Option, length}
+use Rattle.std.specs.Prelude.{◌≡◌, ◌<◌, ℕ, false, List, [], ◌∷◌, ◌++◌, All, Contains, Option, length}
 use Rattle.zr_names.specs.declared.unit.Unit.{Unit}
 use Rattle.zr_names.specs.declared.unit.Work.{Work}
 use Rattle.zr_names.specs.declared.unit.Work.TheVariants as work
@@ -43,6 +43,6 @@ rules_by job other = []
 -- the unit had taken before, with no holds and kept by no rule of the unit's side
 abbrev pub IsHonest : JobSet → Unit → Transcript → Type 0
 IsHonest jobs unit turns =
-    (past later : Transcript) (path name : List ℕ) (given : Answer) →
-    turns ≡ past ++ (cmd.DestroySnap path name, given) ∷ later →
-    WasListed (rules_by (job_at jobs unit.job) unit.work) past path name
+    (past later : Transcript) (path : List ℕ) (names : List (List ℕ)) (given : Answer) →
+    turns ≡ past ++ (cmd.DestroySnaps path names, given) ∷ later →
+    All (WasListed (rules_by (job_at jobs unit.job) unit.work) past path) names

@@ -1,4 +1,4 @@
-use Rattle.std.specs.Prelude.{◌≡◌, ◌⊎◌, ℕ, ◌+◌, ◌-◌, ◌^◌, ◌<◌, List, [], ◌∷◌, Some, All, Contains, Bool, true, false, count_by, filter, length, map, min, not, slice_get}
+use Rattle.std.specs.Prelude.{◌≡◌, ◌⊎◌, ℕ, ◌+◌, ◌-◌, ◌^◌, ◌<◌, List, [], ◌∷◌, Some, All, Any, Bool, true, false, count_by, filter, length, min, sum_by, not, slice_get}
 use Rattle.zr_names.specs.declared.outcome.Outcome.{Outcome}
 use Rattle.zr_names.specs.declared.outcome.Outcome.TheVariants as outcome
 use Rattle.zr_names.specs.declared.unit.Unit.{Unit}
@@ -20,20 +20,20 @@ use Rattle.zr_jobs.specs.Jobs.{fits_in, job_at, matched, pair_of, rules_of}
 use Rattle.zr_permit.specs.Keep.{doomed}
 use Rattle.zr_known.specs.Known.{known_of}
 use Rattle.zr_known.specs.Straight.{has_listed, is_listing, is_straight, IsFinished}
-use Rattle.zr_permit.specs.Transcript.{GoesOn, listed, Transcript, Turn}
+use Rattle.zr_permit.specs.Transcript.{Destroys, GoesOn, listed, Transcript, Turn}
 
 -- a number in an outcome stays at the greatest `u32` once there
 abbrev pub capped : ℕ → ℕ
 capped n = min n (2 ^ 32 - 1)
 
--- a destroy that was done, and one that failed
-abbrev pub is_done_destroy : Cmd → Answer → Bool
-is_done_destroy (cmd.DestroySnap path name) (answer.Done given) = true
-is_done_destroy command given = false
+-- how many snapshots a destroy names that was done, and one that failed
+abbrev pub done_names : Cmd → Answer → ℕ
+done_names (cmd.DestroySnaps path names) (answer.Done given) = length names
+done_names command given = 0
 
-abbrev pub is_failed_destroy : Cmd → Answer → Bool
-is_failed_destroy (cmd.DestroySnap path name) answer.Failed = true
-is_failed_destroy command given = false
+abbrev pub failed_names : Cmd → Answer → ℕ
+failed_names (cmd.DestroySnaps path names) answer.Failed = length names
+failed_names command given = 0
 
 -- a transfer that was done
 abbrev pub is_done_transfer : Cmd → Answer → Bool
@@ -53,7 +53,7 @@ pub record HasScanned (jobs : JobSet) (unit : Unit) (turns : Transcript) (found 
       ≡ capped (length
       (filter (λ path. not (fits_in (job_at jobs unit.job) path)) (matched (job_at jobs unit.job) rows)))
 
--- a prune unit has finished: its dataset was listed, and the destroy of each doomed snapshot was given
+-- a prune unit has finished: its dataset was listed, and a destroy of each doomed snapshot was given
 pub record HasPruned (jobs : JobSet) (unit : Unit) (turns : Transcript) (destroyed busy : ℕ) : Type 0 where
   pub path : List ℕ
   pub work_is : unit.work ≡ work.PruneSource path
@@ -61,10 +61,10 @@ pub record HasPruned (jobs : JobSet) (unit : Unit) (turns : Transcript) (destroy
   pub rows : List VersionRow
   pub told : listed path turns ≡ Some rows
   pub issued :
-      All (λ name. Contains (map (λ (turn : Turn). turn.0) turns) (cmd.DestroySnap path name))
+      All (λ name. Any (λ (turn : Turn). Destroys path name turn.0) turns)
       (doomed (rules_of (job_at jobs unit.job)) rows)
-  pub destroyed_are : destroyed ≡ capped (count_by (λ (turn : Turn). is_done_destroy turn.0 turn.1) turns)
-  pub busy_are : busy ≡ capped (count_by (λ (turn : Turn). is_failed_destroy turn.0 turn.1) turns)
+  pub destroyed_are : destroyed ≡ capped (sum_by (λ (turn : Turn). done_names turn.0 turn.1) turns)
+  pub busy_are : busy ≡ capped (sum_by (λ (turn : Turn). failed_names turn.0 turn.1) turns)
 
 -- a replication unit of a pair has done what it gave
 pub record IsReplicating (jobs : JobSet) (unit : Unit) (turns : Transcript) (pair : Pair) : Type 0 where

@@ -1,4 +1,4 @@
-use Rattle.std.specs.Prelude.{⊤, ◌≡◌, ◌≢◌, ℕ, List, [], ◌∷◌, ◌++◌, Option, Some, None, All, Contains, if◌then◌else◌, nat_eq}
+use Rattle.std.specs.Prelude.{⊤, ◌≡◌, ℕ, List, [], ◌∷◌, ◌++◌, Option, Some, None, All, Contains, if◌then◌else◌, nat_eq}
 use Rattle.std.specs.Cmp.Lexicographic.{pointwise}
 use Rattle.zr_names.specs.declared.unit.Unit.{Unit}
 use Rattle.zr_names.specs.declared.unit.Work.{Work}
@@ -52,13 +52,18 @@ own_path (work.PruneTarget path) = None
 -- a unit goes on after a turn that was done; a prune unit also after a destroy that failed
 abbrev pub GoesOn : Work → Cmd → Answer → Type 0
 GoesOn unit_work command (answer.Done given) = ⊤
-GoesOn (work.PruneSource path) (cmd.DestroySnap other name) answer.Failed = ⊤
-GoesOn (work.PruneTarget path) (cmd.DestroySnap other name) answer.Failed = ⊤
+GoesOn (work.PruneSource path) (cmd.DestroySnaps other names) answer.Failed = ⊤
+GoesOn (work.PruneTarget path) (cmd.DestroySnaps other names) answer.Failed = ⊤
 GoesOn unit_work command given = ⊥
 
--- a destroy is not given twice
+-- the command destroys the snapshot of this name of the dataset at this path
+abbrev pub Destroys : List ℕ → List ℕ → Cmd → Type 0
+Destroys path name (cmd.DestroySnaps other names) = (other ≡ path) × Contains names name
+Destroys path name command = ⊥
+
+-- no snapshot is given for destruction twice
 abbrev pub IsNew : Transcript → Cmd → Type 0
-IsNew past (cmd.DestroySnap path name) = All (λ turn. turn.0 ≢ cmd.DestroySnap path name) past
+IsNew past (cmd.DestroySnaps path names) = All (λ name. All (λ turn. Destroys path name turn.0 → ⊥) past) names
 IsNew past command = ⊤
 
 -- the snapshots that a unit's own listing dooms
@@ -72,16 +77,16 @@ Replicates None past command = ⊥
 Replicates (Some pair) past command = MayGive pair (known_of pair past) command
 
 -- when a unit may give a command, beside what its answers allow: the datasets may be listed by any unit,
--- the versions of the unit's own dataset by that unit, and a snapshot is destroyed by a prune unit of its
--- dataset alone, where the unit's own listing shows it with no holds and no rule keeps it; a replication unit
+-- the versions of the unit's own dataset by that unit, and snapshots are destroyed by a prune unit of their
+-- dataset alone, where the unit's own listing shows each with no holds and no rule keeps it; a replication unit
 -- may give what `Replicates` says, and nothing else is given
 abbrev pub Permits : JobSet → ℕ → Work → Transcript → Cmd → Type 0
 Permits jobs number (work.Replicate source) past command =
     Replicates (pair_of (job_at jobs number) source) past command
 Permits jobs number unit_work past cmd.Sets = ⊤
 Permits jobs number unit_work past (cmd.Versions path) = own_path unit_work ≡ Some path
-Permits jobs number (work.PruneSource own) past (cmd.DestroySnap path name) =
-    (path ≡ own) × Contains (doomed_in jobs number (listed own past)) name
+Permits jobs number (work.PruneSource own) past (cmd.DestroySnaps path names) =
+    (path ≡ own) × All (Contains (doomed_in jobs number (listed own past))) names
 Permits jobs number unit_work past command = ⊥
 
 -- the permission rule: a unit may give a command after a transcript

@@ -1,6 +1,6 @@
 use Rattle.std.specs.Prelude.{⊤}
 use Rattle.std.proofs.Common.{◌≡◌, ◌∙◌, ◌⊎◌, ◌||◌, ℕ, ◌+◌, zero, suc, Bool, true, false, true≢false, List, [], ◌∷◌, ◌++◌, Option, Some, None, ap, arith, cond, filter, inl, inr, length, map, min, not, refl, subst, sym, zero-add}
-use Rattle.std.specs.List.{All, count_by, list_any}
+use Rattle.std.specs.List.{All, list_any, sum_by}
 use Rattle.std.specs.Option.{option_map_or}
 use Rattle.std.proofs.lemmas.List.Sums.{sum_by-append}
 use Rattle.std.proofs.lemmas.List.Elements.{All-cons, All-head, All-nil, All-tail}
@@ -32,11 +32,11 @@ use Rattle.zr_jobs.specs.declared.job.JobSet.{JobSet}
 use Rattle.zr_jobs.specs.declared.job.RuleSpec.{RuleSpec}
 use Rattle.zr_jobs.specs.Jobs.{job_at, rules_of}
 use Rattle.zr_permit.specs.Keep.{doomed}
-use Rattle.zr_permit.specs.Result.{capped, is_failed_destroy}
+use Rattle.zr_permit.specs.Result.{capped, failed_names}
 use Rattle.zr_permit.specs.Sight.{ActedBy, HasJustBegun, Sight, Went}
 use Rattle.zr_permit.specs.Transcript.{GoesOn, later_of, listed as last_listed, rows_told, Transcript, Turn}
 use Rattle.zr_prune.specs.Alone.{is_snap_among, PrunesAlone, rows_at, without_snaps}
-use Rattle.zr_prune.specs.Pruning.{HasGivenAll, IsPruned, IsPruning}
+use Rattle.zr_prune.specs.Pruning.{destroy_one, HasGivenAll, IsPruned, IsPruning}
 use Rattle.zr_prune.proofs.Steps.{commands}
 
 -- what a command that came whole has left and given back
@@ -51,13 +51,13 @@ plain-versions (cmd.Snapshot p name) path e = cc
 plain-versions (cmd.Hold kind job p name) path e = cc
 plain-versions (cmd.Release kind job p name) path e = cc
 plain-versions (cmd.Bookmark p version name) path e = cc
-plain-versions (cmd.DestroySnap p name) path e = cc
+plain-versions (cmd.DestroySnaps p names) path e = cc
 plain-versions (cmd.DestroyMark p name) path e = cc
 plain-versions (cmd.Create p) path e = cc
 plain-versions (cmd.Transfer transfer) path e = cc
 plain-versions (cmd.Abort p) path e = cc
 
-plain-destroy : (given : Cmd) (path name : List ℕ) → plain given ≡ cmd.DestroySnap path name → given ≡ cmd.DestroySnap path name
+plain-destroy : (given : Cmd) (path name : List ℕ) → plain given ≡ destroy_one path name → given ≡ destroy_one path name
 plain-destroy cmd.Sets path name e = cc
 plain-destroy (cmd.Versions p) path name e = cc
 plain-destroy (cmd.Holds p n) path name e = cc
@@ -65,7 +65,7 @@ plain-destroy (cmd.Snapshot p n) path name e = cc
 plain-destroy (cmd.Hold kind job p n) path name e = cc
 plain-destroy (cmd.Release kind job p n) path name e = cc
 plain-destroy (cmd.Bookmark p version n) path name e = cc
-plain-destroy (cmd.DestroySnap p n) path name e = e
+plain-destroy (cmd.DestroySnaps p ns) path name e = e
 plain-destroy (cmd.DestroyMark p n) path name e = cc
 plain-destroy (cmd.Create p) path name e = cc
 plain-destroy (cmd.Transfer transfer) path name e = cc
@@ -80,12 +80,12 @@ listed before after path given (inr (other, is_given, answers)) =
     came before after (cmd.Versions path) given (subst By same answers)
 
 -- a destroy that was done takes its snapshot
-destroyed : (before after : Pools) (path name : List ℕ) (given : Reply) → AnswersWords (cmd.DestroySnap path name) before after (answer.Done given) → after ≡ with_set before path (without (Snap name))
-destroyed before after path name given (inl answers) = (came before after (cmd.DestroySnap path name) given answers).0
+destroyed : (before after : Pools) (path name : List ℕ) (given : Reply) → AnswersWords (destroy_one path name) before after (answer.Done given) → after ≡ with_set before path (without (Snap name))
+destroyed before after path name given (inl answers) = (came before after (destroy_one path name) given answers).0
 destroyed before after path name given (inr (other, is_given, answers)) =
     let same = plain-destroy other path name is_given.same_words in
     let By : Cmd → Type 0 = λ c. Answers c before after (answer.Done given) in
-    (came before after (cmd.DestroySnap path name) given (subst By same answers)).0
+    (came before after (destroy_one path name) given (subst By same answers)).0
 
 -- the turn was done
 abbrev pub IsDone : Turn → Type 0
@@ -115,14 +115,14 @@ turn-of turn command given is done before mid acts =
 head-is : (command other : Cmd) (rest others : List Cmd) → command ∷ rest ≡ other ∷ others → (command ≡ other) × (rest ≡ others)
 head-is command other rest others e = (cc, cc)
 
-all-destroyed : (path : List ℕ) (names : List (List ℕ)) (turns : Transcript) (before after : Pools) → commands turns ≡ map (cmd.DestroySnap path) names → All IsDone turns → ActedBy turns (Some before) (Some after) → after ≡ destroyed_all before path names
+all-destroyed : (path : List ℕ) (names : List (List ℕ)) (turns : Transcript) (before after : Pools) → commands turns ≡ map (destroy_one path) names → All IsDone turns → ActedBy turns (Some before) (Some after) → after ≡ destroyed_all before path names
 all-destroyed path [] [] before after are done acted = cc
 all-destroyed path [] (turn ∷ turns) before after are done acted = cc
 all-destroyed path (name ∷ names) [] before after are done acted = cc
 all-destroyed path (name ∷ names) (turn ∷ turns) before after are done (mid, acts, rest) =
-    let heads = head-is turn.0 (cmd.DestroySnap path name) (commands turns) (map (cmd.DestroySnap path) names) are in
+    let heads = head-is turn.0 (destroy_one path name) (commands turns) (map (destroy_one path) names) are in
     let first = All-head IsDone turn turns done in
-    let now = mid-told (cmd.DestroySnap path name) before mid (answer.Done first.0) (turn-of turn (cmd.DestroySnap path name) first.0 heads.0 first.1 before mid acts) in
+    let now = mid-told (destroy_one path name) before mid (answer.Done first.0) (turn-of turn (destroy_one path name) first.0 heads.0 first.1 before mid acts) in
     let From : Option Pools → Type 0 = λ pools. ActedBy turns pools (Some after) in
     all-destroyed path names turns now.pools after heads.1 (All-tail IsDone turn turns done) (subst From now.told rest)
     ∙ ap (λ (pools : Pools). destroyed_all pools path names) (destroyed before now.pools path name first.0 now.acts)
@@ -193,10 +193,10 @@ destroyed-are path (name ∷ names) pools =
     ∙ with_set-same pools path (λ set. without_snaps names (without (Snap name) set)) (without_snaps (name ∷ names)) (without-more name names)
 
 -- a listing and then destroys, all of which were done, leave the dataset without their snapshots
-pub pruned : (path : List ℕ) (names : List (List ℕ)) (turns : Transcript) (before after : Pools) → commands turns ≡ cmd.Versions path ∷ map (cmd.DestroySnap path) names → All IsDone turns → ActedBy turns (Some before) (Some after) → after ≡ with_set before path (without_snaps names)
+pub pruned : (path : List ℕ) (names : List (List ℕ)) (turns : Transcript) (before after : Pools) → commands turns ≡ cmd.Versions path ∷ map (destroy_one path) names → All IsDone turns → ActedBy turns (Some before) (Some after) → after ≡ with_set before path (without_snaps names)
 pruned path names [] before after are done acted = cc
 pruned path names (turn ∷ turns) before after are done (mid, acts, rest) =
-    let heads = head-is turn.0 (cmd.Versions path) (commands turns) (map (cmd.DestroySnap path) names) are in
+    let heads = head-is turn.0 (cmd.Versions path) (commands turns) (map (destroy_one path) names) are in
     let first = All-head IsDone turn turns done in
     let now = mid-told (cmd.Versions path) before mid (answer.Done first.0) (turn-of turn (cmd.Versions path) first.0 heads.0 first.1 before mid acts) in
     let From : Option Pools → Type 0 = λ pools. ActedBy turns pools (Some after) in
@@ -204,52 +204,78 @@ pruned path names (turn ∷ turns) before after are done (mid, acts, rest) =
     all-destroyed path names turns now.pools after heads.1 (All-tail IsDone turn turns done) (subst From now.told rest)
     ∙ ap (λ (pools : Pools). destroyed_all pools path names) same ∙ destroyed-are path names before
 
--- a prune unit goes on after a destroy that failed and after what was done
-done-or-failed : (own : List ℕ) (command : Cmd) (given : Answer) → GoesOn (work.PruneSource own) command given → is_failed_destroy command given ≡ false → (got : Reply) × (given ≡ answer.Done got)
-done-or-failed own command (answer.Done got) goes sound = (got, refl)
-done-or-failed own (cmd.DestroySnap path name) answer.Failed goes sound = cc
-done-or-failed own command answer.Failed goes sound = absurd goes
-done-or-failed own command (answer.Garbled line) goes sound = absurd goes
-done-or-failed own command answer.NoMemory goes sound = absurd goes
+-- a listing that the unit goes on after was done
+listing-done : (own path : List ℕ) (given : Answer) → GoesOn (work.PruneSource own) (cmd.Versions path) given → (got : Reply) × (given ≡ answer.Done got)
+listing-done own path (answer.Done got) goes = (got, refl)
+listing-done own path answer.Failed goes = absurd goes
+listing-done own path (answer.Garbled line) goes = absurd goes
+listing-done own path answer.NoMemory goes = absurd goes
 
-abbrev failed_in : Turn → Bool
-failed_in turn = is_failed_destroy turn.0 turn.1
+-- and so was a destroy, unless it failed
+destroy-done : (own path name : List ℕ) (given : Answer) → GoesOn (work.PruneSource own) (destroy_one path name) given → failed_names (destroy_one path name) given ≡ 0 → (got : Reply) × (given ≡ answer.Done got)
+destroy-done own path name (answer.Done got) goes sound = (got, refl)
+destroy-done own path name answer.Failed goes sound = absurd (omega (arith, sound))
+destroy-done own path name (answer.Garbled line) goes sound = absurd goes
+destroy-done own path name answer.NoMemory goes sound = absurd goes
+
+abbrev failed_in : Turn → ℕ
+failed_in turn = failed_names turn.0 turn.1
 
 abbrev Goes_in : Work → Turn → Type 0
 Goes_in unit_work turn = GoesOn unit_work turn.0 turn.1
 
-none-counted : (b : Bool) (rest : ℕ) → cond b 1 0 + rest ≡ 0 → (b ≡ false) × (rest ≡ 0)
-none-counted true rest e = absurd (omega (arith, e))
-none-counted false rest e = (refl, omega (arith, e))
+both-zero : (one other : ℕ) → one + other ≡ 0 → (one ≡ 0) × (other ≡ 0)
+both-zero one other e = (omega (arith, e), omega (arith, e))
 
-all-done : (own : List ℕ) (turns : Transcript) → All (Goes_in (work.PruneSource own)) turns → count_by failed_in turns ≡ 0 → All IsDone turns
-all-done own [] goes none = All-nil IsDone
-all-done own (turn ∷ turns) goes none =
-    let both = sym (sum_by-append (λ (t : Turn). cond (failed_in t) 1 0) (turn ∷ []) turns ∙ ap (λ (n : ℕ). n + count_by failed_in turns) (zero-add (cond (failed_in turn) 1 0))) ∙ none in
-    let parts = none-counted (failed_in turn) (count_by failed_in turns) both in
-    All-cons IsDone turn turns (done-or-failed own turn.0 turn.1 (All-head (Goes_in (work.PruneSource own)) turn turns goes) parts.0) (all-done own turns (All-tail (Goes_in (work.PruneSource own)) turn turns goes) parts.1)
+none-failed : (turn : Turn) (turns : Transcript) → sum_by failed_in (turn ∷ turns) ≡ 0 → (failed_in turn ≡ 0) × (sum_by failed_in turns ≡ 0)
+none-failed turn turns none =
+    both-zero (failed_in turn) (sum_by failed_in turns)
+    (sym (sum_by-append failed_in (turn ∷ []) turns ∙ ap (λ (n : ℕ). n + sum_by failed_in turns) (zero-add (failed_in turn))) ∙ none)
 
-destroy-lists-nothing : (path name : List ℕ) (command : Cmd) (given : Answer) → command ≡ cmd.DestroySnap path name → rows_told path command given ≡ None
+destroys-done : (own path : List ℕ) (names : List (List ℕ)) (turns : Transcript) → commands turns ≡ map (destroy_one path) names → All (Goes_in (work.PruneSource own)) turns → sum_by failed_in turns ≡ 0 → All IsDone turns
+destroys-done own path [] [] are goes none = All-nil IsDone
+destroys-done own path [] (turn ∷ turns) are goes none = cc
+destroys-done own path (name ∷ names) [] are goes none = cc
+destroys-done own path (name ∷ names) (turn ∷ turns) are goes none =
+    let heads = head-is turn.0 (destroy_one path name) (commands turns) (map (destroy_one path) names) are in
+    let parts = none-failed turn turns none in
+    let Goes : Cmd → Type 0 = λ c. GoesOn (work.PruneSource own) c turn.1 in
+    let Fails : Cmd → Type 0 = λ c. failed_names c turn.1 ≡ 0 in
+    let goes_on = subst Goes heads.0 (All-head (Goes_in (work.PruneSource own)) turn turns goes) in
+    All-cons IsDone turn turns (destroy-done own path name turn.1 goes_on (subst Fails heads.0 parts.0))
+    (destroys-done own path names turns heads.1 (All-tail (Goes_in (work.PruneSource own)) turn turns goes) parts.1)
+
+all-done : (own path : List ℕ) (names : List (List ℕ)) (turns : Transcript) → commands turns ≡ cmd.Versions path ∷ map (destroy_one path) names → All (Goes_in (work.PruneSource own)) turns → sum_by failed_in turns ≡ 0 → All IsDone turns
+all-done own path names [] are goes none = cc
+all-done own path names (turn ∷ turns) are goes none =
+    let heads = head-is turn.0 (cmd.Versions path) (commands turns) (map (destroy_one path) names) are in
+    let parts = none-failed turn turns none in
+    let Goes : Cmd → Type 0 = λ c. GoesOn (work.PruneSource own) c turn.1 in
+    let goes_on = subst Goes heads.0 (All-head (Goes_in (work.PruneSource own)) turn turns goes) in
+    All-cons IsDone turn turns (listing-done own path turn.1 goes_on)
+    (destroys-done own path names turns heads.1 (All-tail (Goes_in (work.PruneSource own)) turn turns goes) parts.1)
+
+destroy-lists-nothing : (path name : List ℕ) (command : Cmd) (given : Answer) → command ≡ destroy_one path name → rows_told path command given ≡ None
 destroy-lists-nothing path name command given is =
     let Tells : Cmd → Type 0 = λ c. rows_told path c given ≡ None in
     subst Tells (sym is) refl
 
-none-listed : (path : List ℕ) (names : List (List ℕ)) (turns : Transcript) → commands turns ≡ map (cmd.DestroySnap path) names → last_listed path turns ≡ None
+none-listed : (path : List ℕ) (names : List (List ℕ)) (turns : Transcript) → commands turns ≡ map (destroy_one path) names → last_listed path turns ≡ None
 none-listed path [] [] are = refl
 none-listed path [] (turn ∷ turns) are = cc
 none-listed path (name ∷ names) [] are = cc
 none-listed path (name ∷ names) (turn ∷ turns) are =
-    let heads = head-is turn.0 (cmd.DestroySnap path name) (commands turns) (map (cmd.DestroySnap path) names) are in
+    let heads = head-is turn.0 (destroy_one path name) (commands turns) (map (destroy_one path) names) are in
     ap (later_of (rows_told path turn.0 turn.1)) (none-listed path names turns heads.1) ∙ destroy-lists-nothing path name turn.0 turn.1 heads.0
 
 rows-itself : (path : List ℕ) (rows : List VersionRow) → rows_told path (cmd.Versions path) (answer.Done (reply.Versions rows)) ≡ Some rows
 rows-itself path rows = rw (nat_list_eq_equiv.refl path)
 
 -- the rows of the one listing are those of the dataset before
-rows-listed : (path : List ℕ) (names : List (List ℕ)) (turns : Transcript) (rows : List VersionRow) (before after : Pools) → commands turns ≡ cmd.Versions path ∷ map (cmd.DestroySnap path) names → All IsDone turns → ActedBy turns (Some before) (Some after) → last_listed path turns ≡ Some rows → rows ≡ rows_at before path
+rows-listed : (path : List ℕ) (names : List (List ℕ)) (turns : Transcript) (rows : List VersionRow) (before after : Pools) → commands turns ≡ cmd.Versions path ∷ map (destroy_one path) names → All IsDone turns → ActedBy turns (Some before) (Some after) → last_listed path turns ≡ Some rows → rows ≡ rows_at before path
 rows-listed path names [] rows before after are done acted told = cc
 rows-listed path names (turn ∷ turns) rows before after are done (mid, acts, rest) told =
-    let heads = head-is turn.0 (cmd.Versions path) (commands turns) (map (cmd.DestroySnap path) names) are in
+    let heads = head-is turn.0 (cmd.Versions path) (commands turns) (map (destroy_one path) names) are in
     let first = All-head IsDone turn turns done in
     let now = mid-told (cmd.Versions path) before mid (answer.Done first.0) (turn-of turn (cmd.Versions path) first.0 heads.0 first.1 before mid acts) in
     let shows = (listed before now.pools path first.0 now.acts).1 in
@@ -280,7 +306,7 @@ has-given-alone before now begun went given path pools after is told_before told
     let pruning = subst At own given.pruning in
     let turns : now.turns ≡ went.more = went.turns_are ∙ ap (λ (ts : Transcript). ts ++ went.more) begun.no_turns in
     let Works : Work → Type 0 = λ w. All (Goes_in w) now.turns in
-    let done = all-done path now.turns (subst Works pruning.work_is pruning.goes_on) (none-capped (count_by failed_in now.turns) given.busy_are) in
+    let done = all-done path path given.names now.turns pruning.commands (subst Works pruning.work_is pruning.goes_on) (none-capped (sum_by failed_in now.turns) given.busy_are) in
     let From : Option Pools → Type 0 = λ p. ActedBy now.turns p (Some after) in
     let To : Option Pools → Type 0 = λ p. ActedBy now.turns before.pools p in
     let By : Transcript → Type 0 = λ ts. ActedBy ts before.pools now.pools in

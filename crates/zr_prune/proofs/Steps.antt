@@ -1,5 +1,5 @@
-use Rattle.std.proofs.Common.{◌≡◌, ◌≢◌, ◌∙◌, ℕ, ◌+◌, ◌-◌, ◌<◌, ◌≤◌, ◌^◌, Bool, true, false, List, [], ◌∷◌, ◌++◌, Option, Some, ap, refl, sym, subst, arith, length, length-take-le, map, min, take, take_all, get_or, cond, zero-add, add-zero, ◌⊎◌, inl, inr}
-use Rattle.std.specs.List.{All, AllPairs, count_by, Contains}
+use Rattle.std.proofs.Common.{◌≡◌, ◌≢◌, ◌∙◌, ℕ, zero, suc, ◌+◌, ◌-◌, ◌<◌, ◌≤◌, ◌^◌, Bool, true, false, List, [], ◌∷◌, ◌++◌, Option, Some, ap, refl, sym, subst, arith, length, length-take-le, map, min, take, take_all, get_or, cond, zero-add, add-zero, ◌⊎◌, inl, inr}
+use Rattle.std.specs.List.{All, AllPairs, Any, Contains, sum_by}
 use Rattle.std.proofs.lemmas.List.Sums.{sum_by-append}
 use Rattle.std.proofs.lemmas.List.{get_or-map, get_or-take, get_or_default, length-map, map-append, take_more}
 use Rattle.std.proofs.lemmas.List.Elements.{All-cons, All-head, All-map, All-nil, All-push, All-tail, Contains-append_right, Contains-get_or}
@@ -27,20 +27,17 @@ use Rattle.zr_permit.specs.declared.told.Told.{Told}
 use Rattle.zr_permit.specs.declared.told.Told.TheVariants as told
 use Rattle.zr_jobs.specs.Jobs.{job_at, rules_of}
 use Rattle.zr_permit.specs.Keep.{doomed}
-use Rattle.zr_permit.specs.Result.{capped, ended_as, HasPruned, is_done_destroy, is_failed_destroy}
-use Rattle.zr_permit.specs.Transcript.{Allowed, doomed_in, GoesOn, listed, Permits, Transcript, Turn}
+use Rattle.zr_permit.specs.Result.{capped, ended_as, done_names, failed_names, HasPruned}
+use Rattle.zr_permit.specs.Transcript.{Allowed, Destroys, doomed_in, GoesOn, listed, Permits, Transcript, Turn}
 use Rattle.zr_permit.specs.Turned.{HasTurned, IsRecordOf, IsRecordAfter, told_of, Turns}
 use Rattle.zr_permit.specs.Sight.{Follows, HasEnded, HasJustBegun, Sight, Went}
 use Rattle.zr_permit.proofs.Ending.{begun-at-work, ended-on, ended-undone}
 use Rattle.zr_permit.proofs.Listing.{listed-more}
-use Rattle.zr_prune.specs.Pruning.{HasGivenAll, IsPruning, Pruning}
+use Rattle.zr_prune.specs.Pruning.{destroy_one, HasGivenAll, IsPruning, Pruning}
 
 -- the commands of some turns
 abbrev pub commands : Transcript → List Cmd
 commands turns = map (λ (turn : Turn). turn.0) turns
-
-same-name : (path one other : List ℕ) → cmd.DestroySnap path one ≡ cmd.DestroySnap path other → one ≡ other
-same-name path one other e = cc
 
 -- what holds of the commands of some turns
 All-commands : (P : Cmd → Type 0) (turns : Transcript) → All P (commands turns) → All (λ (turn : Turn). P turn.0) turns
@@ -48,13 +45,17 @@ All-commands P [] each = All-nil (λ (turn : Turn). P turn.0)
 All-commands P (turn ∷ turns) each =
     All-cons (λ (t : Turn). P t.0) turn turns (All-head P turn.0 (commands turns) each) (All-commands P turns (All-tail P turn.0 (commands turns) each))
 
+one-element : {X : Type 0} (x z : X) → Contains (x ∷ []) z → x ≡ z
+one-element x z (zero, inside, at) = at
+one-element x z (suc k, inside, at) = absurd (omega (arith, inside))
+
 -- a destroy of another name than those given so far is new
-is_new-destroy : (path : List ℕ) (given : List (List ℕ)) (name : List ℕ) (turns : Transcript) → commands turns ≡ cmd.Versions path ∷ map (cmd.DestroySnap path) given → All (λ n. n ≢ name) given → All (λ (turn : Turn). turn.0 ≢ cmd.DestroySnap path name) turns
+is_new-destroy : (path : List ℕ) (given : List (List ℕ)) (name : List ℕ) (turns : Transcript) → commands turns ≡ cmd.Versions path ∷ map (destroy_one path) given → All (λ n. n ≢ name) given → All (λ (turn : Turn). Destroys path name turn.0 → ⊥) turns
 is_new-destroy path given name turns are others =
-    let Other : Cmd → Type 0 = λ c. c ≢ cmd.DestroySnap path name in
-    let listing : Other (cmd.Versions path) = λ e. cc in
-    let destroys = All-map Other (cmd.DestroySnap path) given (λ k d inside e. others k d inside (same-name path (get_or given k d) name e)) in
-    let each = All-cons Other (cmd.Versions path) (map (cmd.DestroySnap path) given) listing destroys in
+    let Other : Cmd → Type 0 = λ c. Destroys path name c → ⊥ in
+    let listing : Other (cmd.Versions path) = λ e. e in
+    let destroys = All-map Other (destroy_one path) given (λ k d inside e. others k d inside (one-element (get_or given k d) name e.1)) in
+    let each = All-cons Other (cmd.Versions path) (map (destroy_one path) given) listing destroys in
     let all : List Cmd → Type 0 = All Other in
     All-commands Other turns (subst all (sym are) each)
 
@@ -64,37 +65,41 @@ others-before names place differ inside k d below e =
     let short : k < place = omega (arith, length-take-le place names) in
     differ k place d short inside (sym (get_or-take place names k d short) ∙ e ∙ get_or_default names place [] d inside)
 
-permits-destroy : (jobs : JobSet) (unit : Unit) (unit_work : Work) (path : List ℕ) (names : List (List ℕ)) (place : ℕ) (turns : Transcript) → unit_work ≡ work.PruneSource path → names ≡ doomed_in jobs unit.job (listed path turns) → place < length names → Permits jobs unit.job unit_work turns (cmd.DestroySnap path (get_or names place []))
+permits-destroy : (jobs : JobSet) (unit : Unit) (unit_work : Work) (path : List ℕ) (names : List (List ℕ)) (place : ℕ) (turns : Transcript) → unit_work ≡ work.PruneSource path → names ≡ doomed_in jobs unit.job (listed path turns) → place < length names → Permits jobs unit.job unit_work turns (destroy_one path (get_or names place []))
 permits-destroy jobs unit unit_work path names place turns is doomed inside =
     let name = get_or names place [] in
     let among : List (List ℕ) → Type 0 = λ ns. Contains ns name in
-    let permits : Work → Type 0 = λ w. Permits jobs unit.job w turns (cmd.DestroySnap path name) in
-    subst permits (sym is) (refl, subst among doomed (Contains-get_or names place [] inside))
+    let permits : Work → Type 0 = λ w. Permits jobs unit.job w turns (destroy_one path name) in
+    let within = subst among doomed (Contains-get_or names place [] inside) in
+    let Within : List ℕ → Type 0 = Contains (doomed_in jobs unit.job (listed path turns)) in
+    subst permits (sym is) (refl, All-cons Within name [] within (All-nil Within))
 
 -- the next doomed snapshot may be given for destruction
-pub next-allowed : (jobs : JobSet) (unit : Unit) (path : List ℕ) (names : List (List ℕ)) (place : ℕ) (turns : Transcript) → Pruning jobs unit path names (take place names) turns → place < length names → Allowed jobs unit turns (cmd.DestroySnap path (get_or names place []))
+pub next-allowed : (jobs : JobSet) (unit : Unit) (path : List ℕ) (names : List (List ℕ)) (place : ℕ) (turns : Transcript) → Pruning jobs unit path names (take place names) turns → place < length names → Allowed jobs unit turns (destroy_one path (get_or names place []))
 next-allowed jobs unit path names place turns pruning inside = record {
   goes_on = pruning.goes_on;
-  is_new = is_new-destroy path (take place names) (get_or names place []) turns pruning.commands (others-before names place pruning.names_differ inside);
+  is_new = All-cons (λ name. All (λ (turn : Turn). Destroys path name turn.0 → ⊥) turns) (get_or names place []) []
+      (is_new-destroy path (take place names) (get_or names place []) turns pruning.commands (others-before names place pruning.names_differ inside))
+      (All-nil (λ name. All (λ (turn : Turn). Destroys path name turn.0 → ⊥) turns));
   permits = permits-destroy jobs unit unit.work path names place turns pruning.work_is (pruning.names_are ∙ ap (doomed_in jobs unit.job) (sym pruning.told)) inside;
 }
 
 -- a destroy that was done or failed lets a prune unit go on
-goes-on : (unit_work : Work) (own path name : List ℕ) (got : Answer) (given : Told) → unit_work ≡ work.PruneSource own → given ≡ told_of got → (given ≡ told.Done) ⊎ (given ≡ told.Failed) → GoesOn unit_work (cmd.DestroySnap path name) got
+goes-on : (unit_work : Work) (own path name : List ℕ) (got : Answer) (given : Told) → unit_work ≡ work.PruneSource own → given ≡ told_of got → (given ≡ told.Done) ⊎ (given ≡ told.Failed) → GoesOn unit_work (destroy_one path name) got
 goes-on unit_work own path name got given is told_is answered =
-    let goes : Work → Type 0 = λ w. GoesOn w (cmd.DestroySnap path name) got in
+    let goes : Work → Type 0 = λ w. GoesOn w (destroy_one path name) got in
     subst goes (sym is) (by-answer got told_is) where
-      by-answer : (a : Answer) → given ≡ told_of a → GoesOn (work.PruneSource own) (cmd.DestroySnap path name) a
+      by-answer : (a : Answer) → given ≡ told_of a → GoesOn (work.PruneSource own) (destroy_one path name) a
       by-answer (answer.Done reply) e = tt
       by-answer answer.Failed e = tt
       by-answer (answer.Garbled line) e = elim answered [ inl done ↦ cc | inr failed ↦ cc ]
       by-answer answer.NoMemory e = elim answered [ inl done ↦ cc | inr failed ↦ cc ]
 
 -- one more snapshot was given for destruction
-pub pruning-more : (jobs : JobSet) (unit : Unit) (path : List ℕ) (names : List (List ℕ)) (place : ℕ) (before after : Transcript) (given : Told) → Pruning jobs unit path names (take place names) before → place < length names → HasTurned before after (cmd.DestroySnap path (get_or names place [])) given → (given ≡ told.Done) ⊎ (given ≡ told.Failed) → Pruning jobs unit path names (take (place + 1) names) after
+pub pruning-more : (jobs : JobSet) (unit : Unit) (path : List ℕ) (names : List (List ℕ)) (place : ℕ) (before after : Transcript) (given : Told) → Pruning jobs unit path names (take place names) before → place < length names → HasTurned before after (destroy_one path (get_or names place [])) given → (given ≡ told.Done) ⊎ (given ≡ told.Failed) → Pruning jobs unit path names (take (place + 1) names) after
 pruning-more jobs unit path names place before after given pruning inside turned answered =
     let name = get_or names place [] in
-    let destroy = cmd.DestroySnap path name in
+    let destroy = destroy_one path name in
     let turn : Turn = (destroy, turned.got) in
     let Goes : Turn → Type 0 = λ t. GoesOn unit.work t.0 t.1 in
     let all : Transcript → Type 0 = All Goes in
@@ -110,8 +115,8 @@ pruning-more jobs unit path names place before after given pruning inside turned
       commands =
           ap commands turned.turns_are ∙ map-append (λ (t : Turn). t.0) before (turn ∷ [])
           ∙ ap (λ cs. cs ++ destroy ∷ []) pruning.commands
-          ∙ ap (λ cs. cmd.Versions path ∷ cs) (sym (map-append (cmd.DestroySnap path) (take place names) (name ∷ [])))
-          ∙ ap (λ ns. cmd.Versions path ∷ map (cmd.DestroySnap path) ns) (sym given_more);
+          ∙ ap (λ cs. cmd.Versions path ∷ cs) (sym (map-append (destroy_one path) (take place names) (name ∷ [])))
+          ∙ ap (λ ns. cmd.Versions path ∷ map (destroy_one path) ns) (sym given_more);
     }
 
 -- the same unit of the same jobs
@@ -122,14 +127,14 @@ pruning-same jobs jobs' unit unit' path names given turns same_jobs same_unit pr
     subst by_unit (sym same_unit) (subst by_jobs (sym same_jobs) pruning)
 
 abbrev pub done_count : Transcript → ℕ
-done_count turns = count_by (λ (t : Turn). is_done_destroy t.0 t.1) turns
+done_count turns = sum_by (λ (t : Turn). done_names t.0 t.1) turns
 
 abbrev pub failed_count : Transcript → ℕ
-failed_count turns = count_by (λ (t : Turn). is_failed_destroy t.0 t.1) turns
+failed_count turns = sum_by (λ (t : Turn). failed_names t.0 t.1) turns
 
-count-more : (p : Turn → Bool) (turns : Transcript) (turn : Turn) → count_by p (turns ++ turn ∷ []) ≡ count_by p turns + cond (p turn) 1 0
-count-more p turns turn =
-    sum_by-append (λ (t : Turn). cond (p t) 1 0) turns (turn ∷ []) ∙ ap (λ n. count_by p turns + n) (zero-add (cond (p turn) 1 0))
+count-more : (of : Turn → ℕ) (turns : Transcript) (turn : Turn) → sum_by of (turns ++ turn ∷ []) ≡ sum_by of turns + of turn
+count-more of turns turn =
+    sum_by-append of turns (turn ∷ []) ∙ ap (λ n. sum_by of turns + n) (zero-add (of turn))
 
 not-failed : told.Failed ≡ told.Done → ⊥
 not-failed e = cc
@@ -141,21 +146,21 @@ not-short : told.Failed ≡ told.NoMemory → ⊥
 not-short e = cc
 
 -- what a destroy that was done adds to the counts
-pub counts-done : (path name : List ℕ) (before after : Transcript) → HasTurned before after (cmd.DestroySnap path name) told.Done → (done_count after ≡ done_count before + 1) × (failed_count after ≡ failed_count before)
+pub counts-done : (path name : List ℕ) (before after : Transcript) → HasTurned before after (destroy_one path name) told.Done → (done_count after ≡ done_count before + 1) × (failed_count after ≡ failed_count before)
 counts-done path name before after turned = by-answer turned.got turned.told_is turned.turns_are where
-  by-answer : (a : Answer) → told.Done ≡ told_of a → after ≡ before ++ (cmd.DestroySnap path name, a) ∷ [] → (done_count after ≡ done_count before + 1) × (failed_count after ≡ failed_count before)
+  by-answer : (a : Answer) → told.Done ≡ told_of a → after ≡ before ++ (destroy_one path name, a) ∷ [] → (done_count after ≡ done_count before + 1) × (failed_count after ≡ failed_count before)
   by-answer (answer.Done reply) e turns =
-      (ap done_count turns ∙ count-more (λ (t : Turn). is_done_destroy t.0 t.1) before (cmd.DestroySnap path name, answer.Done reply), ap failed_count turns ∙ count-more (λ (t : Turn). is_failed_destroy t.0 t.1) before (cmd.DestroySnap path name, answer.Done reply) ∙ add-zero (failed_count before))
+      (ap done_count turns ∙ count-more (λ (t : Turn). done_names t.0 t.1) before (destroy_one path name, answer.Done reply), ap failed_count turns ∙ count-more (λ (t : Turn). failed_names t.0 t.1) before (destroy_one path name, answer.Done reply) ∙ add-zero (failed_count before))
   by-answer answer.Failed e turns = cc
   by-answer (answer.Garbled line) e turns = cc
   by-answer answer.NoMemory e turns = cc
 
 -- what a destroy that failed adds to the counts
-pub counts-failed : (path name : List ℕ) (before after : Transcript) → HasTurned before after (cmd.DestroySnap path name) told.Failed → (done_count after ≡ done_count before) × (failed_count after ≡ failed_count before + 1)
+pub counts-failed : (path name : List ℕ) (before after : Transcript) → HasTurned before after (destroy_one path name) told.Failed → (done_count after ≡ done_count before) × (failed_count after ≡ failed_count before + 1)
 counts-failed path name before after turned = by-answer turned.got turned.told_is turned.turns_are where
-  by-answer : (a : Answer) → told.Failed ≡ told_of a → after ≡ before ++ (cmd.DestroySnap path name, a) ∷ [] → (done_count after ≡ done_count before) × (failed_count after ≡ failed_count before + 1)
+  by-answer : (a : Answer) → told.Failed ≡ told_of a → after ≡ before ++ (destroy_one path name, a) ∷ [] → (done_count after ≡ done_count before) × (failed_count after ≡ failed_count before + 1)
   by-answer answer.Failed e turns =
-      (ap done_count turns ∙ count-more (λ (t : Turn). is_done_destroy t.0 t.1) before (cmd.DestroySnap path name, answer.Failed) ∙ add-zero (done_count before), ap failed_count turns ∙ count-more (λ (t : Turn). is_failed_destroy t.0 t.1) before (cmd.DestroySnap path name, answer.Failed))
+      (ap done_count turns ∙ count-more (λ (t : Turn). done_names t.0 t.1) before (destroy_one path name, answer.Failed) ∙ add-zero (done_count before), ap failed_count turns ∙ count-more (λ (t : Turn). failed_names t.0 t.1) before (destroy_one path name, answer.Failed))
   by-answer (answer.Done reply) e turns = absurd (not-failed e)
   by-answer (answer.Garbled line) e turns = absurd (not-garbled line e)
   by-answer answer.NoMemory e turns = absurd (not-short e)
@@ -164,24 +169,34 @@ counts-failed path name before after turned = by-answer turned.got turned.told_i
 pub capped-more : (n : ℕ) → min (capped n + 1) (2 ^ 32 - 1) ≡ capped (n + 1)
 capped-more n = omega arith
 
+-- a turn of which a command is
+turn-of-command : (P : Cmd → Type 0) (turns : Transcript) (command : Cmd) → Contains (commands turns) command → P command → Any (λ (turn : Turn). P turn.0) turns
+turn-of-command P turns command (k, inside, at) p =
+    let none : Turn = (command, answer.Failed) in
+    let low : k < length turns = omega (arith, inside, length-map turns (λ (t : Turn). t.0)) in
+    let turn = get_or turns k none in
+    let is : command ≡ turn.0 = sym at ∙ get_or-map (λ (t : Turn). t.0) turns k none command low in
+    (k, turn, low, get_or_default turns k turn none low, subst P is p)
+
 -- all doomed snapshots were given for destruction
-pub all-issued : (jobs : JobSet) (unit : Unit) (path : List ℕ) (names : List (List ℕ)) (place : ℕ) (turns : Transcript) → Pruning jobs unit path names (take place names) turns → length names ≤ place → All (λ name. Contains (commands turns) (cmd.DestroySnap path name)) names
+pub all-issued : (jobs : JobSet) (unit : Unit) (path : List ℕ) (names : List (List ℕ)) (place : ℕ) (turns : Transcript) → Pruning jobs unit path names (take place names) turns → length names ≤ place → All (λ name. Any (λ (turn : Turn). Destroys path name turn.0) turns) names
 all-issued jobs unit path names place turns pruning all =
-    let destroys = map (cmd.DestroySnap path) names in
-    let all_given = ap (λ ns. cmd.Versions path ∷ map (cmd.DestroySnap path) ns) (take_all place names all) in
+    let destroys = map (destroy_one path) names in
+    let all_given = ap (λ ns. cmd.Versions path ∷ map (destroy_one path) ns) (take_all place names all) in
     let are = sym (pruning.commands ∙ all_given) in
     λ k d inside.
     let name = get_or names k d in
-    let has : List Cmd → Type 0 = λ cs. Contains cs (cmd.DestroySnap path name) in
-    let at = sym (get_or-map (cmd.DestroySnap path) names k d (cmd.DestroySnap path d) inside) in
+    let has : List Cmd → Type 0 = λ cs. Contains cs (destroy_one path name) in
+    let at = sym (get_or-map (destroy_one path) names k d (destroy_one path d) inside) in
     let here : Cmd → Type 0 = λ c. Contains destroys c in
-    let among = subst here (sym at) (Contains-get_or destroys k (cmd.DestroySnap path d) (omega (arith, length-map names (cmd.DestroySnap path)))) in
-    subst has are (Contains-append_right (cmd.Versions path ∷ []) destroys (cmd.DestroySnap path name) among)
+    let among = subst here (sym at) (Contains-get_or destroys k (destroy_one path d) (omega (arith, length-map names (destroy_one path)))) in
+    let given = subst has are (Contains-append_right (cmd.Versions path ∷ []) destroys (destroy_one path name) among) in
+    turn-of-command (Destroys path name) turns (destroy_one path name) given (refl, Contains-get_or (name ∷ []) 0 name (omega arith))
 
 -- a prune unit that has given all doomed snapshots for destruction has finished
 pub has-pruned : (jobs : JobSet) (unit : Unit) (path : List ℕ) (names : List (List ℕ)) (place : ℕ) (turns : Transcript) (destroyed busy : ℕ) → Pruning jobs unit path names (take place names) turns → length names ≤ place → destroyed ≡ capped (done_count turns) → busy ≡ capped (failed_count turns) → HasPruned jobs unit turns destroyed busy
 has-pruned jobs unit path names place turns destroyed busy pruning all done failed =
-    let issued : List (List ℕ) → Type 0 = λ ns. All (λ name. Contains (commands turns) (cmd.DestroySnap path name)) ns in
+    let issued : List (List ℕ) → Type 0 = λ ns. All (λ name. Any (λ (turn : Turn). Destroys path name turn.0) turns) ns in
     record {
       path = path;
       work_is = pruning.work_is;

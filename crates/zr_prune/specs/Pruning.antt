@@ -1,17 +1,18 @@
-use Rattle.std.specs.Prelude.{⊤, ◌≡◌, ◌≢◌, ℕ, List, [], ◌∷◌, Some, All, AllPairs, count_by, map}
+use Rattle.std.specs.Prelude.{⊤, ◌≡◌, ◌≢◌, ℕ, List, [], ◌∷◌, Some, All, AllPairs, map, sum_by}
 use Rattle.zr_names.specs.declared.outcome.Outcome.{Outcome}
 use Rattle.zr_names.specs.declared.outcome.Outcome.TheVariants as outcome
 use Rattle.zr_names.specs.declared.unit.Unit.{Unit}
 use Rattle.zr_names.specs.declared.unit.Work.{Work}
 use Rattle.zr_names.specs.declared.unit.Work.TheVariants as work
 use Rattle.zr_command.specs.declared.command.Answer.TheVariants as answer
+use Rattle.zr_command.specs.declared.command.Cmd.{Cmd}
 use Rattle.zr_command.specs.declared.command.Cmd.TheVariants as cmd
 use Rattle.zr_command.specs.declared.command.Reply.TheVariants as reply
 use Rattle.zr_command.specs.declared.version.VersionRow.{VersionRow}
 use Rattle.zr_jobs.specs.declared.job.JobSet.{JobSet}
 use Rattle.zr_jobs.specs.Jobs.{job_at, rules_of}
 use Rattle.zr_permit.specs.Keep.{doomed}
-use Rattle.zr_permit.specs.Result.{capped, is_failed_destroy}
+use Rattle.zr_permit.specs.Result.{capped, failed_names}
 use Rattle.zr_permit.specs.Sight.{Sight}
 use Rattle.zr_permit.specs.Transcript.{GoesOn, listed, Transcript, Turn}
 
@@ -25,6 +26,10 @@ pub record IsListed (turns : Transcript) (path : List ℕ) : Type 0 where
   pub rows : List VersionRow
   pub turns_are : turns ≡ (cmd.Versions path, answer.Done (reply.Versions rows)) ∷ []
 
+-- the destroy of one snapshot
+abbrev pub destroy_one : List ℕ → List ℕ → Cmd
+destroy_one path name = cmd.DestroySnaps path (name ∷ [])
+
 -- a prune unit at work: its dataset was listed, these snapshots are doomed by the listing, and these were
 -- given for destruction
 pub record Pruning (jobs : JobSet) (unit : Unit) (path : List ℕ) (names given : List (List ℕ)) (turns : Transcript) : Type 0 where
@@ -34,7 +39,7 @@ pub record Pruning (jobs : JobSet) (unit : Unit) (path : List ℕ) (names given 
   pub told : listed path turns ≡ Some rows
   pub names_are : names ≡ doomed (rules_of (job_at jobs unit.job)) rows
   pub names_differ : AllPairs (λ a b. a ≢ b) names
-  pub commands : map (λ (turn : Turn). turn.0) turns ≡ cmd.Versions path ∷ map (cmd.DestroySnap path) given
+  pub commands : map (λ (turn : Turn). turn.0) turns ≡ cmd.Versions path ∷ map (destroy_one path) given
 
 -- the same, of what is seen of the unit
 abbrev pub IsPruning : Sight → List ℕ → List (List ℕ) → List (List ℕ) → Type 0
@@ -45,7 +50,7 @@ pub record HasGivenAll (now : Sight) (busy : ℕ) : Type 0 where
   pub path : List ℕ
   pub names : List (List ℕ)
   pub pruning : IsPruning now path names names
-  pub busy_are : busy ≡ capped (count_by (λ (turn : Turn). is_failed_destroy turn.0 turn.1) now.turns)
+  pub busy_are : busy ≡ capped (sum_by (λ (turn : Turn). failed_names turn.0 turn.1) now.turns)
 
 -- so it ends where it has finished
 abbrev pub IsPruned : Sight → Outcome → Type 0

@@ -7,13 +7,13 @@ ghost use Rattle.zr_names.specs.declared.unit.Work.TheVariants as work;
 ghost use Rattle.zr_permit.specs.Sight.{HasEnded, HasJustBegun, IsAtWork, sight, Went};
 ghost use Rattle.zr_permit.specs.Transcript.{doomed_in, listed};
 ghost use Rattle.zr_permit.specs.Turned.{HasTurned, is_no_memory, IsRecordOf, IsRecordAfter, Turns};
-ghost use Rattle.zr_prune.specs.Pruning.{IsListed, IsPruned, IsPruneSource, IsPruning};
+ghost use Rattle.zr_prune.specs.Pruning.{destroy_one, IsListed, IsPruned, IsPruneSource, IsPruning};
 ghost use Rattle.zr_prune.specs.Alone.{PrunesAlone};
 ghost use Rattle.zr_command.specs.declared.command.Cmd.TheVariants as cmd;
 ghost use Rattle.zr_command.specs.declared.command.Entry.{Entry};
 
 use std::alloc::{AllocError, Global};
-use zr_command::{Answer, Cmd, Reply};
+use zr_command::{Answer, Cmd, Names, Reply};
 use zr_names::{Outcome, Path, Same, SnapName, Work};
 use zr_permit::{Guarded, Told, doomed};
 use zr_world::Zfs;
@@ -35,10 +35,11 @@ fn versions(path: &Path) -> Result<Cmd, AllocError>
     Ok(Cmd::Versions(path.same()?))
 }
 
-fn destruction(path: &Path, name: &SnapName) -> Result<Cmd, AllocError>
-    ensures { IfOk result (λ command. command ≡ cmd.DestroySnap path.now name.now) }
+fn destruction(alloc: Global, path: &Path, name: &SnapName) -> Result<Cmd, AllocError>
+    ensures { IfOk result (λ command. command ≡ destroy_one path.now name.now) }
 {
-    Ok(Cmd::DestroySnap(path.same()?, name.same()?))
+    let names = Names::one(alloc, name.same()?)?;
+    Ok(Cmd::DestroySnaps(path.same()?, names))
 }
 
 /// Lists the dataset's versions.
@@ -82,29 +83,40 @@ fn doomed_names<Z: Zfs>(
 }
 
 /// Gives one more snapshot for destruction.
-fn destroy<Z: Zfs>(unit: &mut Guarded<'_, Z>, path: &Path, names: &[SnapName], place: usize) -> Told
+fn destroy<Z: Zfs>(
+    alloc: Global,
+    unit: &mut Guarded<'_, Z>,
+    path: &Path,
+    names: &[SnapName],
+    place: usize,
+) -> Told
     requires inside { place < length names.now }
     requires memory { (sight Z.Zfs unit.old).out_of_memory ≡ false }
     requires pruning { IsPruning (sight Z.Zfs unit.old) path.now names.now (take place names.now) }
     ensures went { Went (sight Z.Zfs unit.old) (sight Z.Zfs unit.new) }
     ensures turns { Turns (sight Z.Zfs unit.old).turns (sight Z.Zfs unit.new).turns
-        (cmd.DestroySnap path.now (slice_index_or names.now place [])) result }
+        (destroy_one path.now (slice_index_or names.now place [])) result }
     ensures memory { is_no_memory result ≡ false → (sight Z.Zfs unit.new).out_of_memory ≡ false }
     ensures records { (base : Option (List Entry))
         → IsRecordOf base (sight Z.Zfs unit.old).history (sight Z.Zfs unit.old).turns →
         IsRecordAfter base (sight Z.Zfs unit.new).history (sight Z.Zfs unit.old).turns
         (sight Z.Zfs unit.new).turns
-        (cmd.DestroySnap path.now (slice_index_or names.now place [])) result }
+        (destroy_one path.now (slice_index_or names.now place [])) result }
     ensures same_runner { unit.new.runner.ghost_name ≡ unit.old.runner.ghost_name }
 {
-    match destruction(path, &names[place]) {
+    match destruction(alloc, path, &names[place]) {
         Ok(command) => unit.run(command),
         Err(_) => Told::NoMemory,
     }
 }
 
 /// Gives each doomed snapshot for destruction. A destroy that fails counts as busy.
-fn destroy_all<Z: Zfs>(unit: &mut Guarded<'_, Z>, path: &Path, names: &[SnapName]) -> Outcome
+fn destroy_all<Z: Zfs>(
+    alloc: Global,
+    unit: &mut Guarded<'_, Z>,
+    path: &Path,
+    names: &[SnapName],
+) -> Outcome
     requires memory { (sight Z.Zfs unit.old).out_of_memory ≡ false }
     requires listed { IsListed (sight Z.Zfs unit.old).turns path.now }
     requires pruning { IsPruning (sight Z.Zfs unit.old) path.now names.now [] }
@@ -115,7 +127,7 @@ fn destroy_all<Z: Zfs>(unit: &mut Guarded<'_, Z>, path: &Path, names: &[SnapName
     let mut destroyed: u32 = 0;
     let mut busy: u32 = 0;
     for place in 0..names.len() {
-        match destroy(unit, path, names, place) {
+        match destroy(alloc, unit, path, names, place) {
             Told::Done => destroyed = destroyed.saturating_add(1),
             Told::Failed => busy = busy.saturating_add(1),
             Told::Garbled(_) => unreachable!(),
@@ -135,7 +147,7 @@ fn prune_listed<Z: Zfs>(alloc: Global, unit: &mut Guarded<'_, Z>, path: &Path) -
     ensures same_runner { unit.new.runner.ghost_name ≡ unit.old.runner.ghost_name }
 {
     match doomed_names(alloc, unit, path) {
-        Ok(names) => destroy_all(unit, path, names.as_slice()),
+        Ok(names) => destroy_all(alloc, unit, path, names.as_slice()),
         Err(_) => unit.out_of_memory(),
     }
 }

@@ -16,13 +16,13 @@ use Rattle.zr_world.specs.declared.effects.Refusal.{Refusal}
 use Rattle.zr_world.specs.declared.pools.Dataset.{Dataset}
 use Rattle.zr_world.specs.declared.pools.Pools.{Pools}
 use Rattle.zr_world.specs.Answering.{IsReplyTo}
-use Rattle.zr_world.specs.Effect.{after_since, Applies, Comes, ComesUnless, Effect, Gives, go, MayCome, part_of, refuse, Replies, reply_to, row_at, ShowsSets, Step, step_at, unless_refused}
+use Rattle.zr_world.specs.Effect.{after_since, Applies, chosen_of, Comes, ComesUnless, Effect, Gives, go, MayCome, part_of, refuse, Replies, reply_to, row_at, ShowsSets, Step, step_at, unless_refused}
 use Rattle.zr_world.specs.Lookup.{is_at}
 use Rattle.zr_world.specs.Planned.{LeavesAt}
 use Rattle.zr_world.specs.Pools.{IsWellFormed}
 use Rattle.zr_world.specs.Reasons.{refusal, refusal_since}
 use Rattle.zr_world.specs.Rows.{row_of_set}
-use Rattle.zr_world.proofs.Sound.{after-keeps, part-keeps, reply-fits, table-leaves}
+use Rattle.zr_world.proofs.Sound.{after-keeps, chosen-keeps, part-keeps, reply-fits, table-leaves}
 
 -- the rows of datasets show each path as its dataset does
 pub row_at-map : (path : List ℕ) (sets : List Dataset) → row_at (map row_of_set sets) path ≡ option_map row_of_set (find (is_at path) sets)
@@ -47,7 +47,7 @@ table-replies since pools (cmd.Snapshot path name) formed = refl
 table-replies since pools (cmd.Hold kind job path name) formed = refl
 table-replies since pools (cmd.Release kind job path name) formed = refl
 table-replies since pools (cmd.Bookmark path version mark) formed = refl
-table-replies since pools (cmd.DestroySnap path name) formed = refl
+table-replies since pools (cmd.DestroySnaps path names) formed = refl
 table-replies since pools (cmd.DestroyMark path mark) formed = refl
 table-replies since pools (cmd.Create path) formed = refl
 table-replies since pools (cmd.Transfer transfer) formed = refl
@@ -79,6 +79,8 @@ apply-gives since pools after command extent.None r formed applies =
     gives-by since pools after pools command extent.None reply.Nothing r (refl, refl) applies
 apply-gives since pools after command extent.Part r formed applies =
     gives-by since pools after (part_of pools command) command extent.Part reply.Nothing r (refl, refl) applies
+apply-gives since pools after command (extent.Chosen bits) r formed applies =
+    gives-by since pools after (chosen_of pools command bits) command (extent.Chosen bits) reply.Nothing r (refl, refl) applies
 apply-gives since pools after command extent.Whole r formed applies =
     gives-by since pools after (after_since pools pools command) command extent.Whole (reply_to pools command) r (table-leaves pools pools command, table-replies since pools command formed) applies
 
@@ -86,6 +88,8 @@ comes-keeps : (since : List Pools) (earlier before after : Pools) (command : Cmd
 comes-keeps since earlier before after command extent.None given allowed comes formed = subst IsWellFormed (sym comes.0) formed
 comes-keeps since earlier before after command extent.Part given allowed comes formed =
     subst IsWellFormed (sym comes.0) (part-keeps before command formed)
+comes-keeps since earlier before after command (extent.Chosen bits) given allowed comes formed =
+    subst IsWellFormed (sym comes.0) (chosen-keeps before command bits formed)
 comes-keeps since earlier before after command extent.Whole given allowed comes formed =
     after-keeps earlier before after command allowed comes.0 formed
 

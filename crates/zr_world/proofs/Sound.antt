@@ -25,7 +25,7 @@ use Rattle.zr_command.specs.declared.version.VersionName.TheVariants.{Snap, Mark
 use Rattle.zr_names.specs.declared.unit.Guid.{Guid}
 use Rattle.zr_command.specs.declared.version.VersionRow.{VersionRow}
 use Rattle.zr_world.specs.Answering.{IsReplyTo}
-use Rattle.zr_world.specs.Effect.{aborted, Aborts, after_since, bookmark_of, bookmarked, first_receive_at, Leaves, new_set, part_of, partial_of, received, reply_to, snapshotted, taken, transferred, with_new, with_partial, with_set, with_tags, with_target, with_version, without_set, without_tag}
+use Rattle.zr_world.specs.Effect.{aborted, Aborts, after_since, bookmark_of, bookmarked, chosen, chosen_of, first_receive_at, Leaves, new_set, part_of, partial_of, received, reply_to, snapshotted, taken, transferred, with_new, with_partial, with_set, with_tags, with_target, with_version, without_set, without_tag, without, without_all}
 use Rattle.zr_world.specs.Lookup.{dataset_at, has_guid, has_name, in_first_receive, is_at, is_snapshot, newest, parent_at, tags_at, version_at}
 use Rattle.zr_command.specs.Kinds.{names_snap}
 use Rattle.zr_command.specs.Names.{is_below, is_tagged, same_name}
@@ -170,6 +170,11 @@ arrival-new pools transfer base.Full e = full-new pools transfer e
 arrival-new pools transfer (base.From mark guid) e =
     increment-new pools transfer guid (dataset_at pools transfer.target) e
 
+removals-keep : (pools : Pools) (path : List ℕ) (names : List VersionName) → IsWellFormed pools → IsWellFormed (without_all pools path names)
+removals-keep pools path [] formed = formed
+removals-keep pools path (name ∷ names) formed =
+    removals-keep (with_set pools path (without name)) path names (removal-keeps pools path name formed)
+
 -- what `apply` leaves after an abort is what an abort may leave
 aborted-aborts : (pools : Pools) (path : List ℕ) → Aborts pools path (aborted pools path)
 aborted-aborts pools path = choose (first_receive_at pools path) refl where
@@ -186,7 +191,7 @@ table-leaves earlier pools (cmd.Snapshot path name) = refl
 table-leaves earlier pools (cmd.Hold kind job path name) = refl
 table-leaves earlier pools (cmd.Release kind job path name) = refl
 table-leaves earlier pools (cmd.Bookmark path version mark) = refl
-table-leaves earlier pools (cmd.DestroySnap path name) = refl
+table-leaves earlier pools (cmd.DestroySnaps path names) = refl
 table-leaves earlier pools (cmd.DestroyMark path mark) = refl
 table-leaves earlier pools (cmd.Create path) = refl
 table-leaves earlier pools (cmd.Transfer transfer) = refl
@@ -225,8 +230,8 @@ after-keeps earlier pools after (cmd.Release kind job path name) allowed leaves 
 after-keeps earlier pools after (cmd.Bookmark path version mark) allowed leaves formed =
     let none = second-none (is_none (version_at pools path version)) (version_at pools path (Mark mark)) NoSuch Exists [] allowed in
     subst IsWellFormed (sym leaves) (bookmark-keeps pools path mark version none formed)
-after-keeps earlier pools after (cmd.DestroySnap path name) allowed leaves formed =
-    subst IsWellFormed (sym leaves) (removal-keeps pools path (Snap name) formed)
+after-keeps earlier pools after (cmd.DestroySnaps path names) allowed leaves formed =
+    subst IsWellFormed (sym leaves) (removals-keep pools path (map Snap names) formed)
 after-keeps earlier pools after (cmd.DestroyMark path mark) allowed leaves formed =
     subst IsWellFormed (sym leaves) (removal-keeps pools path (Mark mark) formed)
 after-keeps earlier pools after (cmd.Create path) allowed leaves formed =
@@ -237,6 +242,21 @@ after-keeps earlier pools after (cmd.Transfer transfer) allowed leaves formed =
     subst IsWellFormed (sym leaves) (transfer-keeps earlier pools transfer (arrival-new pools transfer transfer.base behind) formed)
 after-keeps earlier pools after (cmd.Abort path) allowed leaves formed = abort-keeps pools after path leaves formed
 
+-- so does a chosen extent of it
+pub chosen-keeps : (pools : Pools) (command : Cmd) (bits : ℕ) → IsWellFormed pools → IsWellFormed (chosen_of pools command bits)
+chosen-keeps pools cmd.Sets bits formed = formed
+chosen-keeps pools (cmd.Versions path) bits formed = formed
+chosen-keeps pools (cmd.Holds path name) bits formed = formed
+chosen-keeps pools (cmd.Snapshot path name) bits formed = formed
+chosen-keeps pools (cmd.Hold kind job path name) bits formed = formed
+chosen-keeps pools (cmd.Release kind job path name) bits formed = formed
+chosen-keeps pools (cmd.Bookmark path version mark) bits formed = formed
+chosen-keeps pools (cmd.DestroySnaps path names) bits formed = removals-keep pools path (map Snap (chosen bits names)) formed
+chosen-keeps pools (cmd.DestroyMark path mark) bits formed = formed
+chosen-keeps pools (cmd.Create path) bits formed = formed
+chosen-keeps pools (cmd.Transfer transfer) bits formed = formed
+chosen-keeps pools (cmd.Abort path) bits formed = formed
+
 -- so does a part of it
 pub part-keeps : (pools : Pools) (command : Cmd) → IsWellFormed pools → IsWellFormed (part_of pools command)
 part-keeps pools cmd.Sets formed = formed
@@ -246,7 +266,7 @@ part-keeps pools (cmd.Snapshot path name) formed = formed
 part-keeps pools (cmd.Hold kind job path name) formed = formed
 part-keeps pools (cmd.Release kind job path name) formed = formed
 part-keeps pools (cmd.Bookmark path version mark) formed = formed
-part-keeps pools (cmd.DestroySnap path name) formed = formed
+part-keeps pools (cmd.DestroySnaps path names) formed = formed
 part-keeps pools (cmd.DestroyMark path mark) formed = formed
 part-keeps pools (cmd.Create path) formed = formed
 part-keeps pools (cmd.Transfer transfer) formed =
@@ -293,7 +313,7 @@ reply-fits pools (cmd.Snapshot path name) formed = tt
 reply-fits pools (cmd.Hold kind job path name) formed = tt
 reply-fits pools (cmd.Release kind job path name) formed = tt
 reply-fits pools (cmd.Bookmark path version mark) formed = tt
-reply-fits pools (cmd.DestroySnap path name) formed = tt
+reply-fits pools (cmd.DestroySnaps path names) formed = tt
 reply-fits pools (cmd.DestroyMark path mark) formed = tt
 reply-fits pools (cmd.Create path) formed = tt
 reply-fits pools (cmd.Transfer transfer) formed = tt

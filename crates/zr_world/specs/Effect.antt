@@ -1,4 +1,4 @@
-use Rattle.std.specs.Prelude.{◌≡◌, ◌⊎◌, ℕ, ◌+◌, Bool, true, false, not, if◌then◌else◌, List, [], ◌∷◌, ◌++◌, AllPairs, Option, Some, None, Result, Ok, Err, filter, find, is_some, map, option_map}
+use Rattle.std.specs.Prelude.{◌≡◌, ◌==◌, ◌⊎◌, ℕ, ◌+◌, ◌/◌, ◌%◌, Bool, true, false, not, if◌then◌else◌, List, [], ◌∷◌, ◌++◌, AllPairs, Option, Some, None, Result, Ok, Err, filter, find, is_some, map, option_map}
 use Rattle.std.specs.Option.{option_map_or}
 use Rattle.std.specs.List.{Contains}
 use Rattle.zr_names.specs.Marks.{tag_text}
@@ -137,6 +137,16 @@ abbrev pub bookmarked : Pools → List ℕ → List ℕ → Option Version → P
 bookmarked pools path mark None = pools
 bookmarked pools path mark (Some version) = with_set pools path (with_version (bookmark_of mark version))
 
+-- the pools without these versions of the dataset at this path, as far as they are there
+abbrev pub without_all : Pools → List ℕ → List VersionName → Pools
+without_all pools path [] = pools
+without_all pools path (name ∷ names) = without_all (with_set pools path (without name)) path names
+
+-- the names whose place, counted from 0, has its bit in the number
+abbrev pub chosen : ℕ → List (List ℕ) → List (List ℕ)
+chosen bits [] = []
+chosen bits (name ∷ names) = if bits % 2 == 1 then name ∷ chosen (bits / 2) names else (chosen (bits / 2) names)
+
 -- the table of effects: what stands after the whole of a command, whose sending end read the source at an earlier moment;
 -- an abort may leave a dataset that is taken away here
 abbrev pub after_since : Pools → Pools → Cmd → Pools
@@ -146,7 +156,7 @@ after_since earlier pools (cmd.Hold kind job path name) =
 after_since earlier pools (cmd.Release kind job path name) =
     with_set pools path (with_tags (Snap name) (without_tag (tag_text kind job) (tags_at pools path (Snap name))))
 after_since earlier pools (cmd.Bookmark path version mark) = bookmarked pools path mark (version_at pools path version)
-after_since earlier pools (cmd.DestroySnap path name) = with_set pools path (without (Snap name))
+after_since earlier pools (cmd.DestroySnaps path names) = without_all pools path (map Snap names)
 after_since earlier pools (cmd.DestroyMark path mark) = with_set pools path (without (Mark mark))
 after_since earlier pools (cmd.Create path) = with_new pools (new_placeholder path)
 after_since earlier pools (cmd.Transfer transfer) =
@@ -159,6 +169,11 @@ abbrev pub part_of : Pools → Cmd → Pools
 part_of pools (cmd.Transfer transfer) =
     with_target pools transfer.target (with_partial (Some (partial_of transfer)))
 part_of pools command = pools
+
+-- what stands after a chosen extent of a command: a destroy takes the chosen snapshots away, every other command nothing
+abbrev pub chosen_of : Pools → Cmd → ℕ → Pools
+chosen_of pools (cmd.DestroySnaps path names) bits = without_all pools path (map Snap (chosen bits names))
+chosen_of pools command bits = pools
 
 -- what a command that came whole gives back
 abbrev pub reply_to : Pools → Cmd → Reply
@@ -182,6 +197,8 @@ unless_refused None after given = go after given
 abbrev pub step_at : Pools → Cmd → Extent → Step
 step_at pools command extent.None = unless_refused (refusal pools command) pools reply.Nothing
 step_at pools command extent.Part = unless_refused (refusal pools command) (part_of pools command) reply.Nothing
+step_at pools command (extent.Chosen bits) =
+    unless_refused (refusal pools command) (chosen_of pools command bits) reply.Nothing
 step_at pools command extent.Whole =
     unless_refused (refusal pools command) (after_since pools pools command) (reply_to pools command)
 
@@ -227,6 +244,8 @@ abbrev pub Comes : List Pools → Pools → Pools → Cmd → Extent → Pools �
 Comes since earlier before command extent.None after given = (after ≡ before) × (given ≡ reply.Nothing)
 Comes since earlier before command extent.Part after given =
     (after ≡ part_of before command) × (given ≡ reply.Nothing)
+Comes since earlier before command (extent.Chosen bits) after given =
+    (after ≡ chosen_of before command bits) × (given ≡ reply.Nothing)
 Comes since earlier before command extent.Whole after given =
     Leaves earlier before command after × Replies since before command given
 

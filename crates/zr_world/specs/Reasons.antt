@@ -1,4 +1,5 @@
-use Rattle.std.specs.Prelude.{◌==◌, ◌||◌, ◌-◌, ◌^◌, Bool, true, false, not, if◌then◌else◌, List, [], ◌∷◌, ◌++◌, Option, Some, None, is_none, is_some, length}
+use Rattle.std.specs.Prelude.{◌==◌, ◌||◌, ◌-◌, ◌^◌, Bool, true, false, not, if◌then◌else◌, List, [], ◌∷◌, ◌++◌, Option, Some, None, is_none, is_some, length, ℕ}
+use Rattle.std.specs.List.{list_any}
 use Rattle.std.specs.Option.{option_map_or}
 use Rattle.zr_names.specs.Marks.{tag_text}
 use Rattle.zr_names.specs.declared.unit.Guid.{Guid}
@@ -66,6 +67,14 @@ target_reasons pools transfer base.Full = full_reasons pools transfer (dataset_a
 target_reasons pools transfer (base.From mark guid) =
     increment_reasons pools transfer guid (dataset_at pools transfer.target)
 
+-- a snapshot of this name is there
+abbrev pub is_there : Pools → List ℕ → List ℕ → Bool
+is_there pools path name = is_some (version_at pools path (Snap name))
+
+-- it is there and has a tag
+abbrev pub is_held : Pools → List ℕ → List ℕ → Bool
+is_held pools path name = not (length (tags_at pools path (Snap name)) == 0)
+
 -- the table of refusals, but for what a sending end looks at
 abbrev pub reasons : Pools → Cmd → List (Bool × Refusal)
 reasons pools cmd.Sets = []
@@ -84,9 +93,8 @@ reasons pools (cmd.Release kind job path name) =
 reasons pools (cmd.Bookmark path version mark) =
     (is_none (version_at pools path version), NoSuch)
     ∷ (is_some (version_at pools path (Mark mark)), Exists) ∷ []
-reasons pools (cmd.DestroySnap path name) =
-    (is_none (version_at pools path (Snap name)), NoSuch)
-    ∷ (not (length (tags_at pools path (Snap name)) == 0), Held) ∷ []
+reasons pools (cmd.DestroySnaps path names) =
+    (not (list_any (is_there pools path) names), NoSuch) ∷ (list_any (is_held pools path) names, Held) ∷ []
 reasons pools (cmd.DestroyMark path mark) = (is_none (version_at pools path (Mark mark)), NoSuch) ∷ []
 reasons pools (cmd.Create path) =
     (is_some (dataset_at pools path), Exists)

@@ -1,7 +1,7 @@
 ghost use Rattle.std.specs.Prelude.{◌≡◌, ◌++◌, ◌∷◌, [], None, false, IfOk, OnOk, OnErr, map, option_map};
 ghost use Rattle.std.specs.Option.{option_map_or};
 ghost use Rattle.zr_names.specs.Marks.{tag_text};
-ghost use Rattle.zr_world.specs.Effect.{aborted, after_since, Applies, bookmarked, new_placeholder, part_of, received, reply_to, snapshotted, step_at, with_new, with_target, with_version, without_tag};
+ghost use Rattle.zr_world.specs.Effect.{aborted, after_since, Applies, bookmarked, chosen, chosen_of, new_placeholder, part_of, received, reply_to, snapshotted, step_at, with_new, with_target, with_version, without_all, without_tag};
 ghost use Rattle.zr_world.specs.Lookup.{dataset_at, tags_at, version_at};
 ghost use Rattle.zr_world.specs.Reasons.{are_spent, is_spent, refusal};
 ghost use Rattle.zr_world.specs.Rows.{row_of_set, row_of_version};
@@ -23,6 +23,9 @@ pub enum Extent {
     None,
     /// A transfer leaves a partial receive; for other commands nothing comes.
     Part,
+    /// A destroy of snapshots takes those away whose place in its names, counted from 0, has its bit in the number; for
+    /// other commands nothing comes.
+    Chosen(u64),
     Whole,
 }
 
@@ -114,7 +117,7 @@ fn reply(alloc: Global, pools: &Pools, cmd: &Cmd) -> Result<Reply, NoMemory>
         | Cmd::Hold(_, _, _, _)
         | Cmd::Release(_, _, _, _)
         | Cmd::Bookmark(_, _, _)
-        | Cmd::DestroySnap(_, _)
+        | Cmd::DestroySnaps(_, _)
         | Cmd::DestroyMark(_, _)
         | Cmd::Create(_)
         | Cmd::Transfer(_)
@@ -290,6 +293,80 @@ fn leave_partial(alloc: Global, pools: &mut Pools, transfer: &Transfer) -> Resul
     make_set(alloc, pools, set)
 }
 
+/// Names of snapshots as names of versions.
+fn version_names(alloc: Global, names: &[SnapName]) -> Result<Vec<VersionName>, NoMemory>
+    ensures { IfOk result (λ versions. versions.items ≡ map Snap names.now) }
+{
+    let mut versions = Vec::new(alloc);
+    for name in names {
+        versions.push(VersionName::Snap(name.same()?))?;
+    }
+    Ok(versions)
+}
+
+/// Takes versions away, as far as they are there.
+fn remove_all(alloc: Global, pools: &mut Pools, path: &Path, names: &[VersionName])
+    ensures { pools.new ≡ without_all pools.old path.now names.now }
+{
+    for name in names {
+        remove_version(alloc, pools, path, name);
+    }
+}
+
+/// Takes snapshots away, as far as they are there.
+fn destroy(
+    alloc: Global,
+    pools: &mut Pools,
+    path: &Path,
+    names: &[SnapName],
+) -> Result<(), NoMemory>
+    ensures ok { OnOk result (pools.new ≡ without_all pools.old path.now (map Snap names.now)) }
+    ensures err { OnErr result (pools.new ≡ pools.old) }
+{
+    let versions = version_names(alloc, names)?;
+    remove_all(alloc, pools, path, versions.as_slice());
+    Ok(())
+}
+
+/// The names whose place has its bit in the number.
+fn chosen(alloc: Global, names: &[SnapName], bits: u64) -> Result<Vec<SnapName>, NoMemory>
+    ensures { IfOk result (λ some. some.items ≡ chosen bits names.now) }
+{
+    let mut some = Vec::new(alloc);
+    let mut bits = bits;
+    for name in names {
+        if bits % 2 == 1 {
+            some.push(name.same()?)?;
+        }
+        bits /= 2;
+    }
+    Ok(some)
+}
+
+/// Does a chosen extent of a command that is not refused.
+fn choice(alloc: Global, pools: &mut Pools, cmd: &Cmd, bits: u64) -> Result<(), NoMemory>
+    ensures ok { OnOk result (pools.new ≡ chosen_of pools.old cmd.now bits) }
+    ensures err { OnErr result (pools.new ≡ pools.old) }
+{
+    match cmd {
+        Cmd::DestroySnaps(path, names) => {
+            let names = chosen(alloc, names.as_slice(), bits)?;
+            destroy(alloc, pools, path, names.as_slice())
+        }
+        Cmd::Sets
+        | Cmd::Versions(_)
+        | Cmd::Holds(_, _)
+        | Cmd::Snapshot(_, _)
+        | Cmd::Hold(_, _, _, _)
+        | Cmd::Release(_, _, _, _)
+        | Cmd::Bookmark(_, _, _)
+        | Cmd::DestroyMark(_, _)
+        | Cmd::Create(_)
+        | Cmd::Transfer(_)
+        | Cmd::Abort(_) => Ok(()),
+    }
+}
+
 /// Makes a placeholder.
 fn create(alloc: Global, pools: &mut Pools, path: &Path) -> Result<(), NoMemory>
     ensures ok { OnOk result (pools.new ≡ with_new pools.old (new_placeholder path.now)) }
@@ -323,10 +400,7 @@ fn change(alloc: Global, pools: &mut Pools, cmd: &Cmd) -> Result<(), NoMemory>
         Cmd::Hold(kind, job, path, name) => hold(alloc, pools, *kind, job, path, name),
         Cmd::Release(kind, job, path, name) => release(alloc, pools, *kind, job, path, name),
         Cmd::Bookmark(path, version, mark) => bookmark(alloc, pools, path, version, mark),
-        Cmd::DestroySnap(path, name) => {
-            remove_version(alloc, pools, path, &VersionName::Snap(name.same()?));
-            Ok(())
-        }
+        Cmd::DestroySnaps(path, names) => destroy(alloc, pools, path, names.as_slice()),
         Cmd::DestroyMark(path, mark) => {
             remove_version(alloc, pools, path, &VersionName::Mark(mark.same()?));
             Ok(())
@@ -366,7 +440,7 @@ fn part(alloc: Global, pools: &mut Pools, cmd: &Cmd) -> Result<(), NoMemory>
         | Cmd::Hold(_, _, _, _)
         | Cmd::Release(_, _, _, _)
         | Cmd::Bookmark(_, _, _)
-        | Cmd::DestroySnap(_, _)
+        | Cmd::DestroySnaps(_, _)
         | Cmd::DestroyMark(_, _)
         | Cmd::Create(_)
         | Cmd::Abort(_) => Ok(()),
@@ -389,6 +463,10 @@ pub fn apply(
         Extent::None => Ok(Reply::Nothing),
         Extent::Part => {
             part(alloc, pools, cmd)?;
+            Ok(Reply::Nothing)
+        }
+        Extent::Chosen(bits) => {
+            choice(alloc, pools, cmd, bits)?;
             Ok(Reply::Nothing)
         }
         Extent::Whole => Ok(whole(alloc, pools, cmd)?),

@@ -7,7 +7,10 @@ pub use mem::MemZfs;
 pub use planned::PlannedFailure;
 pub use pools::{Dataset, Partial, Pools, Version};
 pub use zfs::Zfs;
-pub use zr_command::{Answer, Base, Cmd, Entry, Reply, SetRow, Transfer, VersionName, VersionRow};
+pub use zr_command::{
+    Answer, Base, Cmd, Entry, Names, NamesFault, Reply, SetRow, TokenInfo, Transfer, VersionName,
+    VersionRow, read_names,
+};
 
 pub mod acting;
 mod changes;

@@ -1,11 +1,12 @@
 ghost use Rattle.std.specs.Prelude.{◌≡◌, ◌∷◌, [], None, Some, false, is_none, not};
+ghost use Rattle.std.specs.List.{list_any};
 ghost use Rattle.std.specs.Option.{option_copied, option_map_or};
 ghost use Rattle.zr_names.specs.Marks.{tag_text};
 ghost use Rattle.zr_world.specs.Lookup.{has_guid, tags_at, version_at};
 ghost use Rattle.zr_command.specs.Names.{is_tagged, same_text};
-ghost use Rattle.zr_world.specs.Reasons.{first_that_applies, are_spent, full_reasons, increment_reasons, is_spent, reasons, refusal, source_reasons, target_reasons};
+ghost use Rattle.zr_world.specs.Reasons.{first_that_applies, are_spent, full_reasons, increment_reasons, is_held, is_spent, is_there, reasons, refusal, source_reasons, target_reasons};
 ghost use Rattle.zr_command.specs.declared.command.Cmd.TheVariants as cmd;
-ghost use Rattle.zr_world.specs.declared.effects.Refusal.TheVariants.{NoSuch, Spent};
+ghost use Rattle.zr_world.specs.declared.effects.Refusal.TheVariants.{Held, NoSuch, Spent};
 ghost use Rattle.zr_command.specs.declared.version.VersionName.TheVariants.{Snap};
 
 use crate::effects::Refusal;
@@ -235,6 +236,38 @@ fn abort_refusal(pools: &Pools, path: &Path) -> Option<Refusal>
     }
 }
 
+/// Whether some of these snapshots is there.
+fn any_there(pools: &Pools, path: &Path, names: &[SnapName]) -> bool
+    ensures { result ≡ list_any (is_there pools.entry.now path.now) names.now }
+{
+    names.iter().any(|name| pools.snap(path, name).is_some())
+}
+
+/// Whether some of these snapshots is there and has a tag.
+fn any_held(pools: &Pools, path: &Path, names: &[SnapName]) -> bool
+    ensures { result ≡ list_any (is_held pools.entry.now path.now) names.now }
+{
+    names
+        .iter()
+        .any(|name| !tags_at(pools, path, name).is_empty())
+}
+
+/// Why a destroy of snapshots is refused.
+fn destroy_refusal(pools: &Pools, path: &Path, names: &[SnapName]) -> Option<Refusal>
+    ensures { result ≡ first_that_applies
+        ((not (list_any (is_there pools.entry.now path.now) names.now), NoSuch)
+        ∷ (list_any (is_held pools.entry.now path.now) names.now, Held) ∷ []) }
+{
+    if !any_there(pools, path, names) {
+        return Some(Refusal::NoSuch);
+    }
+    if any_held(pools, path, names) {
+        Some(Refusal::Held)
+    } else {
+        None
+    }
+}
+
 /// Why a command is refused, the first reason that applies.
 pub(crate) fn refusal(pools: &Pools, cmd: &Cmd) -> Option<Refusal>
     ensures { result ≡ refusal pools.entry.now cmd.now }
@@ -253,10 +286,7 @@ pub(crate) fn refusal(pools: &Pools, cmd: &Cmd) -> Option<Refusal>
             unless_snap(pools, path, name, !held, Refusal::TagMissing)
         }
         Cmd::Bookmark(path, version, mark) => bookmark_refusal(pools, path, version, mark),
-        Cmd::DestroySnap(path, name) => {
-            let held = !tags_at(pools, path, name).is_empty();
-            unless_snap(pools, path, name, held, Refusal::Held)
-        }
+        Cmd::DestroySnaps(path, names) => destroy_refusal(pools, path, names.as_slice()),
         Cmd::DestroyMark(path, mark) => unless_there(pools.mark(path, mark).is_some()),
         Cmd::Create(path) => create_refusal(pools, path),
         Cmd::Transfer(transfer) => {

@@ -19,6 +19,9 @@ release zrepl_last_received_J_nightly tank/home@z_1 => release last nightly tank
 # words of destroys
 destroy tank/home@z_1 => destroy tank/home @z_1
 destroy tank/home#m => destroy tank/home #m
+destroy tank@a,b,c => destroy tank @a,b,c
+destroy tank@n0,n1,n2,n3,n4,n5,n6,n7,n8,n9,n10,n11,n12,n13,n14,n15,n16,n17,n18,n19,n20,n21,n22,n23,n24,n25,n26,n27,n28,n29,n30,n31,n32,n33,n34,n35,n36,n37,n38,n39,n40,n41,n42,n43,n44,n45,n46,n47,n48,n49,n50,n51,n52,n53,n54,n55,n56,n57,n58,n59,n60,n61,n62,n63 => destroy tank @n0,n1,n2,n3,n4,n5,n6,n7,n8,n9,n10,n11,n12,n13,n14,n15,n16,n17,n18,n19,n20,n21,n22,n23,n24,n25,n26,n27,n28,n29,n30,n31,n32,n33,n34,n35,n36,n37,n38,n39,n40,n41,n42,n43,n44,n45,n46,n47,n48,n49,n50,n51,n52,n53,n54,n55,n56,n57,n58,n59,n60,n61,n62,n63
+destroy tank@n0,n1,n2,n3,n4,n5,n6,n7,n8,n9,n10,n11,n12,n13,n14,n15,n16,n17,n18,n19,n20,n21,n22,n23,n24,n25,n26,n27,n28,n29,n30,n31,n32,n33,n34,n35,n36,n37,n38,n39,n40,n41,n42,n43,n44,n45,n46,n47,n48,n49,n50,n51,n52,n53,n54,n55,n56,n57,n58,n59,n60,n61,n62,n63,n64 => bad word 1
 # words of a snapshot, and of a placeholder
 snapshot tank/home@z_1 => snapshot tank/home @z_1
 create -o zrepl:placeholder=on -o mountpoint=none b/c => create b/c
@@ -37,6 +40,7 @@ build release tank/home z_1 last nightly => /sbin/zfs release zrepl_last_receive
 build snapshot tank/home z_1 => /sbin/zfs snapshot tank/home@z_1
 build create b/c => /sbin/zfs create -o zrepl:placeholder=on -o mountpoint=none b/c
 build destroy tank/home @z_1 => /sbin/zfs destroy tank/home@z_1
+build destroy tank @a,b,c => /sbin/zfs destroy tank@a,b,c
 build destroy tank/home #m => /sbin/zfs destroy tank/home#m
 build bookmark tank/home @s n => /sbin/zfs bookmark tank/home@s tank/home#n
 build bookmark tank/home #m n => /sbin/zfs bookmark tank/home#m tank/home#n
@@ -83,6 +87,17 @@ destroy => bad word 1
 destroy (empty) => bad word 1
 destroy tank/a => bad word 1
 destroy tank@ => bad word 1
+destroy tank@a,a => bad word 1
+destroy tank@a,b,a => bad word 1
+destroy tank@a, => bad word 1
+destroy tank@,a => bad word 1
+destroy tank@a,,b => bad word 1
+destroy tank@a,@b => bad word 1
+destroy tank@a,tank@b => bad word 1
+destroy tank@a,b/c => bad word 1
+destroy tank#a,b => bad word 1
+destroy tank@a tank@b => bad word 2
+holds -H tank@a,b => bad word 2
 destroy @s => bad word 1
 destroy tank@s@t => bad word 1
 destroy tank#m@s => bad word 1
@@ -243,6 +258,17 @@ fn change_text(alloc: Global, cmd: &Cmd) -> Result<String, Unread> {
     }
 }
 
+/// A destroy of snapshots.
+fn group_text(alloc: Global, set: &Path, names: &[SnapName]) -> Result<String, Unread> {
+    let mut out = format!(in alloc; "destroy {}", shown(set.as_bytes()))?;
+    let mut sign = " @";
+    for name in names {
+        write!(out, "{sign}{}", shown(name.as_bytes()))?;
+        sign = ",";
+    }
+    Ok(out)
+}
+
 /// A command and its parts, in their order.
 fn cmd_text(alloc: Global, cmd: &Cmd) -> Result<String, Unread> {
     match cmd {
@@ -250,7 +276,7 @@ fn cmd_text(alloc: Global, cmd: &Cmd) -> Result<String, Unread> {
         Cmd::Versions(set) => Ok(format!(in alloc; "versions {}", shown(set.as_bytes()))?),
         Cmd::Holds(set, snap) => named(alloc, "holds", set, '@', snap.as_bytes()),
         Cmd::Snapshot(set, snap) => named(alloc, "snapshot", set, '@', snap.as_bytes()),
-        Cmd::DestroySnap(set, snap) => named(alloc, "destroy", set, '@', snap.as_bytes()),
+        Cmd::DestroySnaps(set, names) => group_text(alloc, set, names.as_slice()),
         Cmd::DestroyMark(set, mark) => named(alloc, "destroy", set, '#', mark.as_bytes()),
         Cmd::Create(set) => Ok(format!(in alloc; "create {}", shown(set.as_bytes()))?),
         Cmd::Abort(set) => Ok(format!(in alloc; "abort {}", shown(set.as_bytes()))?),

@@ -1,13 +1,14 @@
 //! Listings: how many rows they have or which of their lines is bad, their rows, and the same printed.
-//! The listings are of all datasets, of the versions of `tank/a` and of the holds of `tank/a@s`.
+//! The listings are of all datasets, of the versions of `tank/a`, of the holds of `tank/a@s` and of what a token says.
 
 use std::alloc::Global;
 use tests_lines::{
     Unread, ask_of, bytes_of, counted, escaped, is_wanted, path, placed, shown, snap, told,
 };
-use zr_command::{SetRow, VersionName, VersionRow};
+use zr_command::{SetRow, TokenInfo, VersionName, VersionRow};
 use zr_listing::{
-    ListFault, print_holds, print_sets, print_versions, read_holds, read_sets, read_versions,
+    ListFault, print_holds, print_sets, print_token, print_versions, read_holds, read_sets,
+    read_token, read_versions,
 };
 use zr_names::Tag;
 
@@ -44,6 +45,7 @@ sets tank\t-\t-\ntank\ton\tx\n => bad line 2
 sets tank\t-\t-\na\t-\t-\ntank\t-\n => bad line 3
 sets tank\t-\t-\ntank\t-\t-\nbad\n => bad line 2
 sets tank\t-\t-\nb\t-\t-\nc\t-\t- => bad line 3
+sets tank\t-\t-\nb\t-\t-\t-\n => bad line 2
 # the same for the versions of tank/a
 versions \e => rows: 0
 versions tank/a@s\t1\t2\t3\t0\n => rows: 1
@@ -134,6 +136,37 @@ versions tank/a#s\t1\t2\t3\t-\ntank/a@s\t1\t2\t3\t0\ntank/a#t\t1\t2\t3\t-\ntank/
 holds tank/a@s\ty\t-\ntank/a@s\tx\t-\n => rows: 2
 holds tank/a@s\ty\t-\ntank/a@s\tx\t-\ntank/a@s\tx\t-\n => bad line 3
 holds tank/a@s\ty\t-\ntank/a@s\tx\t-\ntank/a@s\tz\t-\ntank/a@s\ty\t-\n => bad line 4
+# the contents of a resume token: two keys are read, each once, and the first of them has to be there
+token resume token contents:\nnvlist version: 0\n\tobject = 0x6\n\ttoguid = 0x13\n\ttoname = tank/a@s3\n => to 19
+token \e => bad line 1
+token \n => bad line 2
+token resume token contents:\nnvlist version: 0\n => bad line 3
+token toguid = 0x13 => bad line 1
+token \ttoguid = 0x13\n\tfromguid = 0x1f\n => to 19 from 31
+token \tfromguid = 0x1f\n\ttoguid = 0x13\n => to 19 from 31
+token \tfromguid = 0x1f\n => bad line 2
+token toguid = 0x13\ntoguid = 0x13\n => bad line 2
+token toguid = 0x13\nfromguid = 0x1\nx\nfromguid = 0x2\n => bad line 4
+token toguid = 0x13\ntoname = tank/a@s3 => bad line 2
+token \s\t\s\ttoguid = 0x0\n => to 0
+token \rtoguid = 0x0\n => bad line 2
+token toguid = 0xffffffffffffffff\n => to 18446744073709551615
+token toguid = 0xFfFfFfFfFfFfFfFf\n => to 18446744073709551615
+token toguid = 0x0000000000000013\n => to 19
+token toguid = 0x00000000000000013\n => bad line 1
+token toguid = 0x\n => bad line 1
+token toguid = 13\n => bad line 1
+token toguid = 0X13\n => bad line 1
+token toguid = 0x+1\n => bad line 1
+token toguid = 0x1g\n => bad line 1
+token toguid = 0x13 \n => bad line 1
+token toguid =  0x13\n => bad line 1
+token toguid = \n => bad line 1
+token x\nfromguid = 0x1h\ntoguid = 0x13\n => bad line 2
+token toguid =\ntoguid = 0x13\n => to 19
+token toguid: 0x1\nmytoguid = 0x2\nTOGUID = 0x3\ntoguid = 0x13\n => to 19
+print of token \ttoguid = 0xAB0\n => resume token contents:\n\ttoguid = 0xab0\n
+print of token \ttoguid = 0x0\n\tfromguid = 0x0C\n => resume token contents:\n\tfromguid = 0xc\n\ttoguid = 0x0\n
 # rows of datasets in the order of the lines, and the same printed
 rows of sets tank/b\ton\t-\ntank\toff\t1-e2-x\n => tank/b placeholder;tank token 1-e2-x;
 print of sets tank/b\ton\t-\ntank\toff\t1-e2-x\n => tank/b\ton\t-\ntank\t-\t1-e2-x\n
@@ -265,6 +298,22 @@ fn holds(alloc: Global, told: Told, bytes: &[u8]) -> Result<String, Unread> {
     }
 }
 
+fn guids(alloc: Global, info: &TokenInfo) -> Result<String, Unread> {
+    let mut out = counted(alloc, "to", info.to.0)?;
+    if let Some(from) = info.from {
+        write!(out, " from {}", from.0)?;
+    }
+    Ok(out)
+}
+
+fn token(alloc: Global, told: Told, bytes: &[u8]) -> Result<String, Unread> {
+    match (read_token(bytes), told) {
+        (Ok(info), Told::Print) => escaped(alloc, print_token(alloc, &info)?.as_slice()),
+        (Ok(info), Told::Count | Told::Rows) => guids(alloc, &info),
+        (Err(fault), _) => fault_text(alloc, fault),
+    }
+}
+
 /// What is told, and the rest of what a line asks.
 fn told_of(ask: &str) -> (Told, &str) {
     if let Some(rest) = ask.strip_prefix("rows of ") {
@@ -284,6 +333,7 @@ fn said(alloc: Global, ask: &str) -> Result<String, Unread> {
         "sets" => sets(alloc, told, bytes.as_slice()),
         "versions" => versions(alloc, told, bytes.as_slice()),
         "holds" => holds(alloc, told, bytes.as_slice()),
+        "token" => token(alloc, told, bytes.as_slice()),
         _ => Err(Unread),
     }
 }

@@ -234,12 +234,14 @@ due=2 done=2 coalesced=0 taken=0 fresh=0 steps=0 uptodate=0 conflicts=1 destroye
 status 4
 =";
 
-fn extent_word(extent: Option<Extent>) -> &'static str {
+/// Adds the extent at which a call fails.
+fn push_extent(text: &mut String, extent: Option<Extent>) -> Result<(), AllocError> {
     match extent {
-        Some(Extent::None) => "none ",
-        Some(Extent::Part) => "part ",
-        Some(Extent::Whole) => "whole ",
-        None => "",
+        Some(Extent::None) => text.push_str("none "),
+        Some(Extent::Part) => text.push_str("part "),
+        Some(Extent::Chosen(bits)) => write!(text, "chosen {bits} "),
+        Some(Extent::Whole) => text.push_str("whole "),
+        None => Ok(()),
     }
 }
 
@@ -254,8 +256,9 @@ fn push_words(text: &mut String, words: &[Bytes]) -> Result<(), AllocError> {
 }
 
 /// Adds a call and the extent at which it fails. The two ends of a pipe are one call.
-fn push_call(text: &mut String, fails: &str, line: &Line) -> Result<(), AllocError> {
-    write!(text, "\n  {fails}")?;
+fn push_call(text: &mut String, fails: Option<Extent>, line: &Line) -> Result<(), AllocError> {
+    text.push_str("\n  ")?;
+    push_extent(text, fails)?;
     match line {
         Line::Begin(_, _) => text.push_str("a run"),
         Line::Call(call) => push_words(text, call.words.as_slice()),
@@ -276,11 +279,7 @@ fn push_calls(
     for line in told {
         if !matches!(line, Line::Begin(_, _)) {
             number = number.saturating_add(1);
-            push_call(
-                text,
-                extent_word(PlannedFailure::find(failing, number)),
-                line,
-            )?;
+            push_call(text, PlannedFailure::find(failing, number), line)?;
         }
     }
     Ok(())

@@ -2,7 +2,7 @@
 
 use super::is;
 use std::alloc::Global;
-use tests_pools::{Asked, answer_text, before, changed, command_of, pools_of, written};
+use tests_pools::{Asked, answer_text, before, changed, command_of, extent_of, pools_of, written};
 use zr_command::Answer;
 use zr_world::{ApplyFault, Extent, Pools, Refusal, apply};
 
@@ -11,7 +11,7 @@ const TANK: &str =
     "tank @a:11:1:1011 #a:11:1:1011 @b:12:2:1012[zrepl_STEP_J_push,x,zrepl_last_received_J_push] #b:12:2:1012 @c:13:3:1013[zrepl_STEP_J_push];";
 
 /// Each command with its answer or why it is refused, and what has changed in the pools, before its effect, after a part of
-/// it and after the whole, or once where the three are the same. The targets of the refused commands are: one whose newest
+/// it and after the whole, or once where the three are the same; behind `chosen` and a number, after these names of it. The targets of the refused commands are: one whose newest
 /// snapshot is that of the bookmark `tank#b`; one with a partial receive beside a snapshot; one in its first receive; one
 /// with an older snapshot; a placeholder; and one that has a snapshot `c` already.
 const BLOCKS: &str = "\
@@ -31,6 +31,30 @@ now 9000 txg 100 guid 500;back @a:11:7:1011 #b:12:8:1012;
   bookmark tank #b n => done = / done = / done =;=;tank @a:11:1:1011 #a:11:1:1011 @b:12:2:1012[zrepl_STEP_J_push,x,zrepl_last_received_J_push] #b:12:2:1012 #n:12:2:1012 @c:13:3:1013[zrepl_STEP_J_push];
   destroy tank @a => done = / done = / done =;=;tank #a:11:1:1011 @b:12:2:1012[zrepl_STEP_J_push,x,zrepl_last_received_J_push] #b:12:2:1012 @c:13:3:1013[zrepl_STEP_J_push];
   destroy tank #b => done = / done = / done =;=;tank @a:11:1:1011 #a:11:1:1011 @b:12:2:1012[zrepl_STEP_J_push,x,zrepl_last_received_J_push] @c:13:3:1013[zrepl_STEP_J_push];
+
+destroys_of_several_take_those_that_are_there
+now 9000 txg 100 guid 500;back @a:11:7:1011 @d:14:8:1014 @e:15:9:1015[x] @f:16:10:1016;
+  destroy back @a,d => done = / done = / done =;back @e:15:9:1015[x] @f:16:10:1016;=;
+  destroy back @d,no,a => done = / done = / done =;back @e:15:9:1015[x] @f:16:10:1016;=;
+  destroy back @no,f => done = / done = / done =;back @a:11:7:1011 @d:14:8:1014 @e:15:9:1015[x];=;
+  chosen 1 destroy back @d,a,f => done =;back @a:11:7:1011 @e:15:9:1015[x] @f:16:10:1016;=;
+  chosen 6 destroy back @d,a,f => done =;back @d:14:8:1014 @e:15:9:1015[x];=;
+  chosen 5 destroy back @a,no,f => done =;back @d:14:8:1014 @e:15:9:1015[x];=;
+  chosen 2 destroy back @a,no,f => done =
+  chosen 0 destroy back @a,f => done =
+  chosen 8 destroy back @a,d,f => done =
+  chosen 18446744073709551615 destroy back @a => done =;back @d:14:8:1014 @e:15:9:1015[x] @f:16:10:1016;=;
+  chosen 1 destroy tank #a => done =
+  chosen 1 hold tank a step push => done =
+
+destroys_of_several_are_refused_for_the_first_reason
+now 9000 txg 100 guid 500;back @a:11:7:1011 @d:14:8:1014 @e:15:9:1015[x] @f:16:10:1016;
+  destroy none @a,d => NoSuch =
+  destroy back @no,b => NoSuch =
+  chosen 1 destroy back @no,b => NoSuch =
+  destroy back @a,e => Held =
+  destroy back @e,no => Held =
+  chosen 1 destroy back @a,e => Held =
 
 listings_give_the_rows_of_what_stands
 now 9000 txg 100 guid 500;back placeholder partial 11 none tank;cut partial 18 17 tank;
@@ -239,6 +263,9 @@ impl Before {
 
 impl Asked for Before {
     fn came(&mut self, alloc: Global, ask: &str) -> Option<String> {
+        if let (Some(extent), ask) = extent_of(ask) {
+            return self.came_to(alloc, ask, extent);
+        }
         let none = self.came_to(alloc, ask, Extent::None)?;
         let part = self.came_to(alloc, ask, Extent::Part)?;
         let whole = self.came_to(alloc, ask, Extent::Whole)?;

@@ -11,3 +11,6 @@ returns-in-Mark c = rw c.in-Mark.is c.is_full-in-Mark.ensures
 
 pub returns-in-Tag : goal.returns-in-Tag
 returns-in-Tag c = rw c.in-Tag.is c.is_job_tag.ensures
+
+pub returns-in-Group : goal.returns-in-Group
+returns-in-Group c = rw c.in-Group.is c.is_full_group.ensures
