@@ -1,3 +1,5 @@
+//! Writes the words of a call, word by word, by the table of forms.
+
 ghost use Rattle.std.specs.Prelude.{◌≡◌, ◌≢◌, ◌<◌, [], ◌∷◌, ◌++◌, IfOk, map, OnOk};
 ghost use Rattle.std.specs.List.{AllByRecursion, join_with_byte};
 ghost use Rattle.std.specs.Str.{IsUtf8};

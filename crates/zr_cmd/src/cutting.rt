@@ -1,3 +1,5 @@
+//! Cuts a word at its signs into the parts that a pattern asks for.
+
 ghost use Rattle.std.specs.Prelude.{◌≡◌, [], ◌∷◌, ◌++◌, ◌==◌, ◌+◌, ◌≤◌, IfOk, MatchOption, length, position, true};
 ghost use Rattle.std.specs.Option.{option_map_or};
 ghost use Rattle.std.specs.Bool.{Decides};

@@ -1,3 +1,5 @@
+//! The table of forms: which words each call has. Both the writer and the reader go by it.
+
 use zr_command::Cmd;
 use zr_names::{MarkName, Path, SnapName};
 

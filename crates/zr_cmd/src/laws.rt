@@ -1,3 +1,5 @@
+//! What holds of words, for those who read a record of children.
+
 ghost use Rattle.std.specs.Prelude.{◌≡◌, ◌⊎◌, List, ℕ, Result, Ok, Err, Some};
 ghost use Rattle.zr_cmd.specs.Calls.{call_of};
 ghost use Rattle.zr_cmd.specs.Words.{IsNamed, Reads, Spells, words_of};

@@ -1,3 +1,5 @@
+//! Reads words into the call that they spell, or names the first bad word.
+
 ghost use Rattle.std.specs.Prelude.{◌≡◌, IfOk, map};
 ghost use Rattle.std.specs.Bool.{Decides};
 ghost use Rattle.zr_cmd.specs.Forms.{Suits, job_part, kind_part, name_part, pattern_of, patterns_of, read_as, set_part, word_at};

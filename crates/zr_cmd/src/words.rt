@@ -1,3 +1,5 @@
+//! A list of words, which contracts see as the list of their bytes.
+
 use std::alloc::{AllocError, Global};
 use std::marker::Model;
 

@@ -1,3 +1,5 @@
+//! Commands, replies, answers and the entries of a record, with their copies.
+
 ghost use Rattle.std.specs.Prelude.{◌≡◌, IfOk};
 
 use crate::names::Names;

@@ -1,3 +1,5 @@
+//! The rows of listings, with their copies.
+
 use std::alloc::AllocError;
 use zr_names::{Guid, MarkName, Path, Same, SnapName, TokenText};
 

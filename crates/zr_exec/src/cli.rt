@@ -1,3 +1,6 @@
+//! The runner of commands by children: words out, listings and ends in. Apart from `spawn`, which
+//! knows no ZFS.
+
 ghost use Rattle.std.specs.Prelude.{◌≡◌, ◌≤◌, ◌+◌, ◌<◌, ◌^◌, length};
 ghost use Rattle.zr_exec.specs.Answering.{IsAnswer, newlines, pipe_answer, refusal_of};
 ghost use Rattle.zr_exec.specs.Listed.{listed_by};

@@ -1,3 +1,5 @@
+//! What a record of children says of commands, as laws for those who read one.
+
 ghost use Rattle.zr_exec.specs.declared.spawn.TheConstants.{LISTING_LIMIT};
 ghost use Rattle.std.specs.Prelude.{◌≡◌, List, Some, false, ℕ};
 ghost use Rattle.zr_cmd.specs.Words.{Spells, words_of};

@@ -1,3 +1,6 @@
+//! What can start children, and what its record shows: words, bytes and how a child ended. It knows
+//! no ZFS.
+
 ghost use Rattle.std.specs.Prelude.{◌≡◌, ◌≤◌, ℕ, [], ◌∷◌, List, Option, OnOk, OnErr, drop, length, map, string_bytes};
 ghost use Rattle.zr_exec.specs.Exits.{HasExitCause, HasPipeCause};
 ghost use Rattle.zr_exec.specs.Recording.{with_lines, RecordsChild, RecordsPipe};

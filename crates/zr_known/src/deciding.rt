@@ -1,3 +1,6 @@
+//! Whether a replication may give a command, by what it knows: each line of the permission rule as
+//! a test.
+
 ghost use Rattle.std.specs.Prelude.{◌≡◌, ◌==◌, ◌&&◌, ◌||◌, ◌++◌, Some, Decides};
 ghost use Rattle.std.specs.List.{list_any};
 ghost use Rattle.std.specs.Option.{option_copied};

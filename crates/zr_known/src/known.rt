@@ -1,3 +1,5 @@
+//! What a replication knows of its pair, and of each side.
+
 use std::alloc::Global;
 use zr_command::{SetRow, VersionRow};
 use zr_names::{JobName, Path, Rows, SnapName};

@@ -1,3 +1,5 @@
+//! What holds of knowledge, for those who stand on it.
+
 ghost use Rattle.std.specs.Prelude.{◌≡◌, ◌≢◌, ◌++◌, ◌∷◌, [], ℕ, List, Some, filter, true};
 ghost use Rattle.zr_command.specs.declared.command.Answer.{Answer};
 ghost use Rattle.zr_command.specs.declared.command.Answer.TheVariants as answer;

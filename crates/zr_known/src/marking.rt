@@ -1,3 +1,5 @@
+//! What the cursor of a snapshot is made from.
+
 ghost use Rattle.std.specs.Prelude.{◌≡◌};
 
 use crate::known::Known;

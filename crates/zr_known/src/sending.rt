@@ -1,3 +1,5 @@
+//! The one transfer that a replication may give next, by its plan.
+
 ghost use Rattle.std.specs.Prelude.{◌≡◌};
 ghost use Rattle.zr_known.specs.Replication.{is_there};
 

@@ -1,3 +1,5 @@
+//! When a pair is straight, when all was listed, and when nothing is left to settle.
+
 ghost use Rattle.std.specs.Prelude.{◌≡◌};
 ghost use Rattle.std.specs.List.{list_all};
 ghost use Rattle.zr_command.specs.Kinds.{is_cursor_of};

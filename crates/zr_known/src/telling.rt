@@ -1,3 +1,6 @@
+//! What each turn tells, put into what is known. Apart from `updates`, which changes one side at a
+//! time.
+
 use crate::known::{Known, Receiving, Side};
 use crate::updates::{
     arrived_by_sets, has_tag, insert_name, mark_row, own_marks, presence_after, presence_by,

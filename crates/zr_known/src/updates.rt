@@ -1,3 +1,5 @@
+//! The changes of what is known that turns are made of.
+
 ghost use Rattle.std.specs.Prelude.{◌≡◌, ◌++◌, ◌∷◌, [], IfOk, OnErr, OnOk, filter, find, not, option_map, true};
 ghost use Rattle.std.specs.Option.{option_copied};
 ghost use Rattle.zr_names.specs.Marks.{tag_text};

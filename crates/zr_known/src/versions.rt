@@ -1,3 +1,5 @@
+//! The versions that are a job's own, and what is looked up by name among rows.
+
 ghost use Rattle.std.specs.Prelude.{◌≡◌, ◌&&◌, find};
 ghost use Rattle.std.specs.List.{list_any};
 ghost use Rattle.std.specs.Option.{option_copied};

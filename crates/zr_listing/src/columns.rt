@@ -1,3 +1,5 @@
+//! Cuts a line into its columns.
+
 ghost use Rattle.std.specs.Prelude.{◌≡◌, ◌≢◌, ◌==◌, List, ℕ, ◌<◌, ◌^◌, [], ◌∷◌, ◌++◌, IfSome, IfNone, length, position};
 ghost use Rattle.std.specs.Fmt.{decimal};
 ghost use Rattle.zr_listing.specs.Columns.{columns, has_printed_front, parted};

@@ -1,3 +1,5 @@
+//! Why bytes are no listing.
+
 use std::alloc::{AllocError, AllocFailed};
 use zr_names::NameFault;
 

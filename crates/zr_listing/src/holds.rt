@@ -1,3 +1,5 @@
+//! The listing of a snapshot's holds (zfs-holds(8)).
+
 ghost use Rattle.std.specs.Prelude.{◌≡◌, ◌≢◌, ◌∷◌, ℕ, List, AllPairs, IfOk, IfErr, IsFalse, IsTrue};
 ghost use Rattle.zr_listing.specs.Columns.{full_name, IsHoldLine, IsTag};
 ghost use Rattle.zr_listing.specs.Lines.{IsBadAt};

@@ -1,3 +1,5 @@
+//! Reads a listing line by line, whatever its rows are, and finds the first bad line.
+
 ghost use Rattle.std.specs.Prelude.{◌≡◌, [], ◌∷◌, ◌++◌, ℕ, List, IfOk, IfErr, IsErrOf, OnOk, cond, not, true};
 ghost use Rattle.zr_listing.specs.Lines.{IsBadAt, Lines, NamesDiffer};
 ghost use Rattle.zr_listing.specs.Steps.{Begins, BeginsBad};

@@ -1,3 +1,6 @@
+//! The names that a listing had so far, so that none comes twice. Those that rise cost one
+//! comparison each.
+
 ghost use Rattle.std.specs.Prelude.{◌≡◌, ℕ, List};
 ghost use Rattle.zr_listing.specs.Names.{AreBelow, is_less, Rises};
 

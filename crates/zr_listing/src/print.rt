@@ -1,3 +1,5 @@
+//! Writes listings as ZFS prints them, for the model program.
+
 ghost use Rattle.std.specs.Prelude.{◌≡◌, ◌≢◌, ◌∷◌, ◌++◌, AllPairs, IfOk, IfSome, OnOk, flat_map};
 ghost use Rattle.std.specs.Fmt.{decimal};
 ghost use Rattle.zr_names.specs.Names.{IsName, name_is_bad, tag_is_bad, token_is_bad};

@@ -1,3 +1,5 @@
+//! The listing of all datasets (zfs-list(8)).
+
 ghost use Rattle.std.specs.Prelude.{◌≡◌, List, Some, None, IfOk, IfErr};
 ghost use Rattle.std.specs.Option.{option_copied};
 ghost use Rattle.zr_names.specs.Names.{IsName, path_is_bad, token_is_bad};

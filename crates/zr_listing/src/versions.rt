@@ -1,3 +1,5 @@
+//! The listing of a dataset's snapshots and bookmarks (zfs-list(8)).
+
 ghost use Rattle.std.specs.Prelude.{◌≡◌, ◌++◌, ℕ, List, IfSome, IfNone, IfOk, IfErr, OnOk, IsPermutation};
 ghost use Rattle.std.specs.List.Sorted.{IsSortedBy};
 ghost use Rattle.std.specs.Ordering.{is_lt};

@@ -1,3 +1,5 @@
+//! Whether pools are well formed, tested row by row.
+
 ghost use Rattle.std.specs.Prelude.{◌≡◌, ◌≢◌, ◌<◌, All, AllPairs, IsTrue, true};
 ghost use Rattle.zr_command.specs.Names.{is_below, name_is_below};
 ghost use Rattle.zr_world.specs.Pools.{IsWellFormed, IsWellFormedSet, MarkIsFree};

@@ -1,3 +1,5 @@
+//! A runner of children over pools in memory, with a record and planned failures.
+
 ghost use Rattle.std.specs.Prelude.{◌≡◌, ◌++◌, ◌∷◌, [], IfOk, OnOk, OnErr, map, string_bytes};
 ghost use Rattle.zr_exec.specs.Recording.{call_line, pipe_line};
 ghost use Rattle.zr_model.specs.Stored.{IsRecorded, IsRecordedPipe};

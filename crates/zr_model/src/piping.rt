@@ -1,3 +1,6 @@
+//! Serves the words of a pipe: the one transfer that they give on these pools. Apart from
+//! `serving`, which reads one child's words.
+
 ghost use Rattle.std.specs.Prelude.{◌≡◌, ◌≢◌, None, true, false, IfOk, MatchOption, is_some, map, string_bytes};
 ghost use Rattle.zr_cmd.specs.declared.forms.ZfsCall.TheVariants as call;
 ghost use Rattle.zr_exec.specs.Exits.{HasPipeCause, is_pipe_fault};

@@ -1,3 +1,5 @@
+//! Serves the words of one child: the command that they spell, and what it prints.
+
 ghost use Rattle.std.specs.Prelude.{◌≡◌, ◌≢◌, ◌≤◌, [], IfOk, OnOk, None, drop, is_some, length, map, string_bytes, true};
 ghost use Rattle.zr_exec.specs.Commands.{command_in};
 ghost use Rattle.zr_exec.specs.Exits.{HasExitCause, is_child_fault};

@@ -1,3 +1,6 @@
+//! How a command is answered by pools in memory, planned failures among the answers. Apart from
+//! `effects`, which fails none.
+
 ghost use Rattle.std.specs.Prelude.{◌≡◌, false};
 ghost use Rattle.zr_world.specs.Answering.{Answers, IsReplyTo, HasCause, is_failed, is_garbled};
 ghost use Rattle.zr_world.specs.Pools.{IsWellFormed};

@@ -1,3 +1,5 @@
+//! The changes that effects are made of: to a list, to a dataset, to the pools.
+
 ghost use Rattle.std.specs.Prelude.{◌≡◌, OnErr, OnOk, ◌≤◌, filter, length, not, position};
 ghost use Rattle.std.specs.List.{position_or_len};
 ghost use Rattle.zr_world.specs.Effect.{first_changed, put_in, set_before, version_before, with_new, with_partial, with_set, with_tags, with_version, without, without_set};

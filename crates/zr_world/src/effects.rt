@@ -1,3 +1,5 @@
+//! What each command does to the pools, at each extent: the table of effects.
+
 ghost use Rattle.std.specs.Prelude.{◌≡◌, ◌++◌, ◌∷◌, [], None, false, IfOk, OnOk, OnErr, map, option_map};
 ghost use Rattle.std.specs.Option.{option_map_or};
 ghost use Rattle.zr_names.specs.Marks.{tag_text};

@@ -1,3 +1,5 @@
+//! What holds of effects, for those who stand on the relation and not on its table.
+
 ghost use Rattle.std.specs.Prelude.{◌≡◌, ◌++◌, ◌∷◌, [], ℕ, All, Err, List, Ok, Option, Result, Some, None, map};
 ghost use Rattle.std.specs.List.{Contains};
 ghost use Rattle.zr_world.specs.Effect.{after_since, Applies, Effect, Gives, row_at, shown_at, step_at};

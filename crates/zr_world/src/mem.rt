@@ -1,3 +1,5 @@
+//! A runner of commands over pools in memory, with a record and planned failures.
+
 ghost use Rattle.std.specs.Prelude.{◌≡◌, ◌++◌, ◌∷◌, [], IfOk, OnOk, OnErr};
 ghost use Rattle.zr_world.specs.Mem.{Recorded};
 ghost use Rattle.zr_command.specs.Plain.{plain};

@@ -1,3 +1,5 @@
+//! Which call is to fail, and how much of it comes before.
+
 use crate::effects::Extent;
 
 /// A call that is to fail, counted from 1, and how much of its effect comes before.

@@ -1,3 +1,6 @@
+//! Pools as a model: datasets with their versions and partial receives, the counters, and what is
+//! looked up in them.
+
 ghost use Rattle.std.specs.Prelude.{◌≡◌, ◌==◌, ◌++◌, OnOk};
 ghost use Rattle.std.specs.List.{list_any};
 ghost use Rattle.zr_world.specs.Lookup.{is_component, is_parent};

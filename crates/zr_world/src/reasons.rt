@@ -1,3 +1,5 @@
+//! Why a command is refused: the table of refusals, each with its first reason that applies.
+
 ghost use Rattle.std.specs.Prelude.{◌≡◌, ◌∷◌, [], None, Some, false, is_none, not};
 ghost use Rattle.std.specs.List.{list_any};
 ghost use Rattle.std.specs.Option.{option_copied, option_map_or};

@@ -1,3 +1,5 @@
+//! What runs ZFS commands, as units of work see it.
+
 ghost use Rattle.std.specs.Prelude.{◌≡◌, ℕ, [], ◌∷◌, List, Option, OnOk, OnErr};
 ghost use Rattle.zr_world.specs.Answering.{Acts, appended, IsReplyTo, HasCause, Logs};
 ghost use Rattle.zr_command.specs.Plain.{plain};

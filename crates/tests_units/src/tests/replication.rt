@@ -60,7 +60,9 @@ fn job_of(alloc: Global) -> Option<Job> {
         name: job(alloc, "j")?,
         filter: Filter { entries },
         keep_source: Rows::new(alloc),
-        destination: Some(Destination::Pull { root: path(alloc, "q")? }),
+        destination: Some(Destination::Pull {
+            root: path(alloc, "q")?,
+        }),
     })
 }
 
