@@ -1,0 +1,2 @@
+//! One module for what is asked of a set.
+mod sets;

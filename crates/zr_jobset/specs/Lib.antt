@@ -1,0 +1,5 @@
+pub mod Kinds
+pub mod Fields
+pub mod Checks
+pub mod Sets
+pub mod Places
