@@ -2,7 +2,7 @@
 
 use crate::words::shown;
 use std::alloc::{AllocError, Global};
-use zr_command::{Answer, Reply, SetRow, VersionName, VersionRow};
+use zr_command::{Answer, Reply, SetRow, TokenInfo, VersionName, VersionRow};
 use zr_names::Tag;
 
 pub fn push_name(text: &mut String, name: &VersionName) -> Result<(), AllocError> {
@@ -62,12 +62,21 @@ fn push_version_rows(text: &mut String, rows: &[VersionRow]) -> Result<(), Alloc
     Ok(())
 }
 
+/// The guid of what is sent, and that of what the stream goes on from.
+fn push_info(text: &mut String, info: &TokenInfo) -> Result<(), AllocError> {
+    match info.from {
+        Some(from) => write!(text, "to {} from {}", info.to.0, from.0),
+        None => write!(text, "to {} in full", info.to.0),
+    }
+}
+
 fn push_reply(text: &mut String, reply: &Reply) -> Result<(), AllocError> {
     match reply {
         Reply::Nothing => text.push_str("done"),
         Reply::Sets(rows) => push_set_rows(text, rows.as_slice()),
         Reply::Versions(rows) => push_version_rows(text, rows.as_slice()),
         Reply::Holds(tags) => push_tags(text, tags.as_slice()),
+        Reply::Token(info) => push_info(text, info),
     }
 }
 

@@ -1,6 +1,6 @@
 //! Commands by their words, and which of the calls of a block are to fail.
 
-use crate::words::{job, mark, number, path, snap, word};
+use crate::words::{job, mark, number, path, snap, token, word};
 use std::alloc::Global;
 use std::str::Split;
 use zr_command::{Base, Cmd, Names, Transfer, VersionName, read_names};
@@ -87,27 +87,37 @@ fn destroy(alloc: Global, set: &str, names: &str) -> Option<Cmd> {
     Some(Cmd::DestroyMark(set, mark(alloc, name)?))
 }
 
-/// What a transfer starts from: `full`, or a bookmark of this guid.
-fn base(alloc: Global, text: &str, guid: Guid) -> Option<Base> {
-    if text == "full" {
-        return Some(Base::Full);
+/// What a transfer starts from: `full`, a token and its guid or `none` behind `resume`, or a bookmark and its guid.
+fn base(alloc: Global, start: &str, of: &str, guid: &str) -> Option<Base> {
+    match start {
+        "full" => Some(Base::Full),
+        "resume" => Some(Base::Resume(token(alloc, of)?, from(guid)?)),
+        name => Some(Base::From(mark(alloc, name)?, Guid(number(of)?))),
     }
-    Some(Base::From(mark(alloc, text)?, guid))
 }
 
-/// The guid of the bookmark from which a transfer starts.
-fn base_guid(text: &str, words: &mut Split<'_, char>) -> Option<Guid> {
-    if text == "full" {
-        return Some(Guid(0));
+/// The guid of what a stream goes on from, or `none`.
+fn from(text: &str) -> Option<Option<Guid>> {
+    if text == "none" {
+        return Some(None);
     }
-    Some(Guid(number(word(words))?))
+    Some(Some(Guid(number(text)?)))
+}
+
+/// The words behind the first one of a base.
+fn base_words<'a>(start: &str, words: &mut Split<'a, char>) -> (&'a str, &'a str) {
+    match start {
+        "full" => ("", ""),
+        "resume" => (word(words), word(words)),
+        _ => (word(words), ""),
+    }
 }
 
 /// The snapshot and its guid, the base, the target and whether it is forced.
 fn send(alloc: Global, set: &str, words: &mut Split<'_, char>) -> Option<Cmd> {
     let (to, guid) = (word(words), Guid(number(word(words))?));
     let start = word(words);
-    let from = base_guid(start, words)?;
+    let (of, from) = base_words(start, words);
     let (target, force) = (word(words), word(words) == "force");
     let target = path(alloc, target)?;
     let source = path(alloc, set)?;
@@ -116,7 +126,7 @@ fn send(alloc: Global, set: &str, words: &mut Split<'_, char>) -> Option<Cmd> {
         source,
         to,
         guid,
-        base: base(alloc, start, from)?,
+        base: base(alloc, start, of, from)?,
         target,
         force,
     }))
@@ -131,6 +141,7 @@ pub fn command_of(alloc: Global, line: &str) -> Option<Cmd> {
         "sets" => Some(Cmd::Sets),
         "versions" => versions(alloc, set),
         "holds" => holds(alloc, set, word(&mut words)),
+        "token" => Some(Cmd::Token(token(alloc, set)?)),
         "snapshot" => snapshot(alloc, set, word(&mut words)),
         "hold" => hold(alloc, set, &mut words),
         "release" => release(alloc, set, &mut words),

@@ -3,7 +3,8 @@
 use std::alloc::Global;
 use std::str::Split;
 use zr_names::{
-    JobName, MarkName, Path, SnapName, Tag, read_job, read_mark, read_path, read_snap, read_tag,
+    JobName, MarkName, Path, SnapName, Tag, TokenText, read_job, read_mark, read_path, read_snap,
+    read_tag, read_token_text,
 };
 
 /// The next word, which is empty where none is left.
@@ -43,6 +44,10 @@ pub fn job(alloc: Global, text: &str) -> Option<JobName> {
 pub fn tag(alloc: Global, text: &str) -> Option<Tag> {
     let text = text.replace(alloc, "~", " ").ok()?;
     read_tag(alloc, text.as_bytes()).ok()
+}
+
+pub fn token(alloc: Global, text: &str) -> Option<TokenText> {
+    read_token_text(alloc, text.as_bytes()).ok()
 }
 
 /// A name as text.

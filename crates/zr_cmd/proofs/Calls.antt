@@ -46,6 +46,7 @@ unfolding sets_words versions_words
 form-found (call.One cmd.Sets) n = refl
 form-found (call.One (cmd.Versions path)) n = refl
 form-found (call.One (cmd.Holds path name)) n = refl
+form-found (call.One (cmd.Token token)) n = refl
 form-found (call.One (cmd.Snapshot path name)) n = refl
 form-found (call.One (cmd.Hold kind job path name)) n = refl
 form-found (call.One (cmd.Release kind job path name)) n = refl
@@ -58,6 +59,7 @@ form-found (call.One (cmd.Transfer transfer)) n = absurd n
 form-found (call.One (cmd.Abort path)) n = refl
 form-found (call.SendFull path name) n = refl
 form-found (call.SendFrom path mark name) n = refl
+form-found (call.SendToken token) n = refl
 form-found (call.Receive path false) n = refl
 form-found (call.Receive path true) n = refl
 
@@ -67,6 +69,7 @@ unfolding versions_words
 names-found (call.One cmd.Sets) n = refl
 names-found (call.One (cmd.Versions path)) n = refl
 names-found (call.One (cmd.Holds path name)) n = rw (set-of path name 64 refl n.0, name-of path name 64 refl n.0) refl
+names-found (call.One (cmd.Token token)) n = refl
 names-found (call.One (cmd.Snapshot path name)) n = rw (set-of path name 64 refl n.0, name-of path name 64 refl n.0) refl
 names-found (call.One (cmd.Hold kind job path name)) n =
     rw (kind-of kind job, after-front kind job, set-of path name 64 refl n.1, name-of path name 64 refl n.1) refl
@@ -84,6 +87,7 @@ names-found (call.One (cmd.Abort path)) n = refl
 names-found (call.SendFull path name) n = rw (set-of path name 64 refl n.0, name-of path name 64 refl n.0) refl
 names-found (call.SendFrom path mark name) n =
     rw (set-of path mark 35 refl n.0, name-of path mark 35 refl n.0, name-of path name 64 refl n.0) refl
+names-found (call.SendToken token) n = refl
 names-found (call.Receive path false) n = refl
 names-found (call.Receive path true) n = refl
 
@@ -141,6 +145,7 @@ unfolding sets_words versions_words
 some-words (call.One cmd.Sets) n e = cc
 some-words (call.One (cmd.Versions path)) n e = cc
 some-words (call.One (cmd.Holds path name)) n e = cc
+some-words (call.One (cmd.Token token)) n e = cc
 some-words (call.One (cmd.Snapshot path name)) n e = cc
 some-words (call.One (cmd.Hold kind job path name)) n e = cc
 some-words (call.One (cmd.Release kind job path name)) n e = cc
@@ -152,6 +157,7 @@ some-words (call.One (cmd.Transfer transfer)) n e = absurd n
 some-words (call.One (cmd.Abort path)) n e = cc
 some-words (call.SendFull path name) n e = cc
 some-words (call.SendFrom path mark name) n e = cc
+some-words (call.SendToken token) n e = cc
 some-words (call.Receive path force) n e = cc
 
 spelled-known : (words : List (List ℕ)) (c : ZfsCall) → Spells words c → IsUnknown words → ⊥

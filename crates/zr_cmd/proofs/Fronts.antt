@@ -2,11 +2,11 @@ use Rattle.std.proofs.Common.{◌≡◌, ℕ, zero, suc, ◌-◌, ◌<◌, ◌�
 use Rattle.std.specs.Bool.{⊤}
 use Rattle.std.proofs.lemmas.List.{get_or-take, length-take-le}
 use Rattle.zr_names.specs.Marks.{tag_text}
-use Rattle.zr_names.specs.Names.{path_is_bad, name_is_bad}
+use Rattle.zr_names.specs.Names.{path_is_bad, name_is_bad, token_is_bad}
 use Rattle.zr_names.specs.declared.marks.TagKind.TheVariants.{Step}
-use Rattle.zr_cmd.specs.Forms.{Suits, Pattern, fixed, a_path, a_snap, a_group, a_mark, same_snap, same_mark, a_tag, set_part}
+use Rattle.zr_cmd.specs.Forms.{Suits, Pattern, fixed, a_path, a_snap, a_group, a_mark, same_snap, same_mark, a_tag, set_part, a_token}
 use Rattle.zr_cmd.specs.Steps.{SuitsAt}
-use Rattle.zr_cmd.specs.Words.{IsGroup, IsJob, IsPath, IsVersion}
+use Rattle.zr_cmd.specs.Words.{IsGroup, IsJob, IsPath, IsToken, IsVersion}
 use Rattle.zr_cmd.proofs.Cut.{full, full-group, job-tag, set-of}
 
 -- the words are as the patterns have them, as far as they go
@@ -91,6 +91,7 @@ names_set a_mark = true
 names_set same_snap = true
 names_set same_mark = true
 names_set a_tag = false
+names_set a_token = false
 
 -- whether the pattern may stand behind one that names its dataset or doesn't
 abbrev pub may_follow : Bool → Pattern → Bool
@@ -102,6 +103,7 @@ may_follow named a_mark = true
 may_follow named same_snap = named
 may_follow named same_mark = named
 may_follow named a_tag = true
+may_follow named a_token = true
 
 abbrev pub is_chain : Bool → List Pattern → Bool
 is_chain named [] = true
@@ -116,6 +118,7 @@ named-set a_mark before word e f = f.is_path
 named-set same_snap before word e f = f.0.is_path
 named-set same_mark before word e f = f.0.is_path
 named-set a_tag before word e f = cc
+named-set a_token before word e f = cc
 
 first-place : (place : ℕ) → place < 1 → path_is_bad (97 ∷ []) place ≡ false
 first-place zero inside = refl
@@ -141,6 +144,13 @@ group-a = record {
 job-a : IsJob (97 ∷ [])
 job-a = record { not_empty = omega arith; not_long = omega arith; no_place_bad = first-name }
 
+first-byte : (place : ℕ) → place < 1 → token_is_bad (97 ∷ []) place ≡ false
+first-byte zero inside = refl
+first-byte (suc k) inside = absurd (omega arith)
+
+token-a : IsToken (97 ∷ [])
+token-a = record { not_empty = omega arith; not_long = omega arith; no_place_bad = first-byte }
+
 -- some word is as the pattern has it
 fillable : (p prev : Pattern) (before word : List ℕ) → may_follow (names_set prev) p ≡ true → Suits prev before word → (w : List ℕ) × Suits p word w
 fillable (fixed text) prev before word e f = (text, refl)
@@ -155,6 +165,7 @@ fillable same_mark prev before word e f =
     let set = named-set prev before word e f in
     (set_part word ++ 35 ∷ 97 ∷ [], (full (set_part word) (97 ∷ []) 35 refl set name-a, set-of (set_part word) (97 ∷ []) 35 refl set))
 fillable a_tag prev before word e f = (tag_text Step (97 ∷ []), job-tag Step (97 ∷ []) job-a)
+fillable a_token prev before word e f = (97 ∷ [], token-a)
 
 both : (x y : Bool) → (x && y) ≡ true → (x ≡ true) × (y ≡ true)
 both true y e = (refl, e)

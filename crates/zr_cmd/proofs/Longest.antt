@@ -67,32 +67,36 @@ whole-from f words n ps is same all parts =
 -- the table
 abbrev pub forms : List Form
 forms =
-    form.Sets ∷ form.Versions ∷ form.Holds ∷ form.Snapshot ∷ form.Hold ∷ form.Release ∷ form.BookmarkSnap ∷ form.BookmarkMark
-    ∷ form.DestroySnaps ∷ form.DestroyMark ∷ form.Create ∷ form.SendFull ∷ form.SendFrom ∷ form.Receive ∷ form.ReceiveForced ∷ form.Abort ∷ []
+    form.Sets ∷ form.Versions ∷ form.Holds ∷ form.Token ∷ form.Snapshot ∷ form.Hold ∷ form.Release ∷ form.BookmarkSnap
+    ∷ form.BookmarkMark ∷ form.DestroySnaps ∷ form.DestroyMark ∷ form.Create ∷ form.SendFull ∷ form.SendFrom ∷ form.SendToken
+    ∷ form.Receive ∷ form.ReceiveForced ∷ form.Abort ∷ []
 
 -- the place of a form in the table
 abbrev pub place_of : Form → ℕ
 place_of form.Sets = 0
 place_of form.Versions = 1
 place_of form.Holds = 2
-place_of form.Snapshot = 3
-place_of form.Hold = 4
-place_of form.Release = 5
-place_of form.BookmarkSnap = 6
-place_of form.BookmarkMark = 7
-place_of form.DestroySnaps = 8
-place_of form.DestroyMark = 9
-place_of form.Create = 10
-place_of form.SendFull = 11
-place_of form.SendFrom = 12
-place_of form.Receive = 13
-place_of form.ReceiveForced = 14
-place_of form.Abort = 15
+place_of form.Token = 3
+place_of form.Snapshot = 4
+place_of form.Hold = 5
+place_of form.Release = 6
+place_of form.BookmarkSnap = 7
+place_of form.BookmarkMark = 8
+place_of form.DestroySnaps = 9
+place_of form.DestroyMark = 10
+place_of form.Create = 11
+place_of form.SendFull = 12
+place_of form.SendFrom = 13
+place_of form.SendToken = 14
+place_of form.Receive = 15
+place_of form.ReceiveForced = 16
+place_of form.Abort = 17
 
-pub in-table : (f : Form) → place_of f < 16
+pub in-table : (f : Form) → place_of f < 18
 in-table form.Sets = omega arith
 in-table form.Versions = omega arith
 in-table form.Holds = omega arith
+in-table form.Token = omega arith
 in-table form.Snapshot = omega arith
 in-table form.Hold = omega arith
 in-table form.Release = omega arith
@@ -103,6 +107,7 @@ in-table form.DestroyMark = omega arith
 in-table form.Create = omega arith
 in-table form.SendFull = omega arith
 in-table form.SendFrom = omega arith
+in-table form.SendToken = omega arith
 in-table form.Receive = omega arith
 in-table form.ReceiveForced = omega arith
 in-table form.Abort = omega arith
@@ -111,6 +116,7 @@ at-own : (f : Form) → f ≡ get_or forms (place_of f) form.Sets
 at-own form.Sets = refl
 at-own form.Versions = refl
 at-own form.Holds = refl
+at-own form.Token = refl
 at-own form.Snapshot = refl
 at-own form.Hold = refl
 at-own form.Release = refl
@@ -121,6 +127,7 @@ at-own form.DestroyMark = refl
 at-own form.Create = refl
 at-own form.SendFull = refl
 at-own form.SendFrom = refl
+at-own form.SendToken = refl
 at-own form.Receive = refl
 at-own form.ReceiveForced = refl
 at-own form.Abort = refl
@@ -182,7 +189,7 @@ more-tried words count most n g t at is short =
     }
 
 -- where no word begins a call the first one is of none
-pub unknown : (words : List (List ℕ)) → Tried words 16 0 → IsUnknown words
+pub unknown : (words : List (List ℕ)) → Tried words 18 0 → IsUnknown words
 unknown [] t = tt
 unknown (w ∷ ws) t = λ b.
     let r = reached (w ∷ ws) 1 (omega arith) b in
@@ -196,7 +203,7 @@ known (w ∷ ws) (suc k) some within b u =
     u (record { given = b.given; more = take k ws ++ b.more; named = b.named; longer = b.longer })
 
 -- where all forms were tried, the most words that begin a call are known
-pub bad-word : (words : List (List ℕ)) (most : ℕ) → Tried words 16 most → 0 < most → Reads words (Err (BadWord most))
+pub bad-word : (words : List (List ℕ)) (most : ℕ) → Tried words 18 most → 0 < most → Reads words (Err (BadWord most))
 bad-word words most t some = (
   known words most some t.within t.begins,
   (λ c is. t.none (form_of c) (in-table (form_of c)) (spelled-whole words c is)),

@@ -16,6 +16,7 @@ abbrev pub form_of : ZfsCall → Form
 form_of (call.One cmd.Sets) = form.Sets
 form_of (call.One (cmd.Versions path)) = form.Versions
 form_of (call.One (cmd.Holds path name)) = form.Holds
+form_of (call.One (cmd.Token token)) = form.Token
 form_of (call.One (cmd.Snapshot path name)) = form.Snapshot
 form_of (call.One (cmd.Hold kind job path name)) = form.Hold
 form_of (call.One (cmd.Release kind job path name)) = form.Release
@@ -28,6 +29,7 @@ form_of (call.One (cmd.Transfer transfer)) = form.Sets
 form_of (call.One (cmd.Abort path)) = form.Abort
 form_of (call.SendFull path name) = form.SendFull
 form_of (call.SendFrom path mark name) = form.SendFrom
+form_of (call.SendToken token) = form.SendToken
 form_of (call.Receive path false) = form.Receive
 form_of (call.Receive path true) = form.ReceiveForced
 
@@ -37,6 +39,7 @@ unfolding sets_words versions_words
 chained form.Sets = refl
 chained form.Versions = refl
 chained form.Holds = refl
+chained form.Token = refl
 chained form.Snapshot = refl
 chained form.Hold = refl
 chained form.Release = refl
@@ -47,6 +50,7 @@ chained form.DestroyMark = refl
 chained form.Create = refl
 chained form.SendFull = refl
 chained form.SendFrom = refl
+chained form.SendToken = refl
 chained form.Receive = refl
 chained form.ReceiveForced = refl
 chained form.Abort = refl
@@ -64,6 +68,7 @@ pub written : (c : ZfsCall) (b : List ℕ) → IsNamed c → Along (patterns_of 
 written (call.One cmd.Sets) b n = along-fixed sets_words b
 written (call.One (cmd.Versions path)) b n = along-then versions_words a_path b path (λ c. n)
 written (call.One (cmd.Holds path name)) b n = (refl, (refl, (full path name 64 refl n.0 n.1, tt)))
+written (call.One (cmd.Token token)) b n = (refl, (refl, (n, tt)))
 written (call.One (cmd.Snapshot path name)) b n = (refl, (full path name 64 refl n.0 n.1, tt))
 written (call.One (cmd.Hold kind job path name)) b n = (refl, (job-tag kind job n.0, (full path name 64 refl n.1 n.2, tt)))
 written (call.One (cmd.Release kind job path name)) b n = (refl, (job-tag kind job n.0, (full path name 64 refl n.1 n.2, tt)))
@@ -79,6 +84,7 @@ written (call.One (cmd.Abort path)) b n = (refl, (refl, (n, tt)))
 written (call.SendFull path name) b n = (refl, (full path name 64 refl n.0 n.1, tt))
 written (call.SendFrom path mark name) b n =
     (refl, (refl, (full path mark 35 refl n.0 n.1, ((full path name 64 refl n.0 n.2, set-of path name 64 refl n.0 ∙ sym (set-of path mark 35 refl n.0)), tt))))
+written (call.SendToken token) b n = (refl, (refl, (n, tt)))
 written (call.Receive path false) b n = (refl, (refl, (refl, (n, tt))))
 written (call.Receive path true) b n = (refl, (refl, (refl, (refl, (n, tt)))))
 
@@ -91,6 +97,7 @@ pub all-written : (c : ZfsCall) → IsNamed c → length (words_of c) ≡ length
 all-written (call.One cmd.Sets) n = sym (length-map sets_words fixed)
 all-written (call.One (cmd.Versions path)) n = length-then versions_words a_path path
 all-written (call.One (cmd.Holds path name)) n = refl
+all-written (call.One (cmd.Token token)) n = refl
 all-written (call.One (cmd.Snapshot path name)) n = refl
 all-written (call.One (cmd.Hold kind job path name)) n = refl
 all-written (call.One (cmd.Release kind job path name)) n = refl
@@ -103,6 +110,7 @@ all-written (call.One (cmd.Transfer transfer)) n = absurd n
 all-written (call.One (cmd.Abort path)) n = refl
 all-written (call.SendFull path name) n = refl
 all-written (call.SendFrom path mark name) n = refl
+all-written (call.SendToken token) n = refl
 all-written (call.Receive path false) n = refl
 all-written (call.Receive path true) n = refl
 
@@ -162,6 +170,7 @@ exact form.Versions b at a =
     record { same = t.same ∙ ap (λ w. versions_words ++ w ∷ []) (sym t.at); named = subst IsPath (sym t.at) t.fits }
 exact form.Holds b at a =
     record { same = cons a.0 (cons a.1.0 (cons a.1.1.0.spelled refl)); named = (a.1.1.0.is_path, a.1.1.0.is_name) }
+exact form.Token b at a = record { same = cons a.0 (cons a.1.0 refl); named = a.1.1.0 }
 exact form.Snapshot b at a = record { same = cons a.0 (cons a.1.0.spelled refl); named = (a.1.0.is_path, a.1.0.is_name) }
 exact form.Hold b at a =
     record { same = cons a.0 (cons a.1.0.spelled (cons a.1.1.0.spelled refl)); named = (a.1.0.is_job, a.1.1.0.is_path, a.1.1.0.is_name) }
@@ -181,6 +190,7 @@ exact form.SendFrom b at a =
       same = cons a.0 (cons a.1.0 (cons a.1.1.0.spelled (cons (same-set (at 3) (at 2) 64 a.1.1.1.0.0 a.1.1.1.0.1) refl)));
       named = (a.1.1.0.is_path, a.1.1.0.is_name, a.1.1.1.0.0.is_name);
     }
+exact form.SendToken b at a = record { same = cons a.0 (cons a.1.0 refl); named = a.1.1.0 }
 exact form.Receive b at a = record { same = cons a.0 (cons a.1.0 (cons a.1.1.0 refl)); named = a.1.1.1.0 }
 exact form.ReceiveForced b at a = record { same = cons a.0 (cons a.1.0 (cons a.1.1.0 (cons a.1.1.1.0 refl))); named = a.1.1.1.1.0 }
 exact form.Abort b at a = record { same = cons a.0 (cons a.1.0 refl); named = a.1.1.0 }

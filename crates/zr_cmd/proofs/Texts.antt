@@ -1,4 +1,4 @@
-use Rattle.std.proofs.Common.{◌≡◌, ◌==◌, ◌&&◌, ◌||◌, ℕ, zero, suc, ◌<◌, Bool, true, false, not, List, [], ◌∷◌, ◌++◌, length, slice_index, refl, arith, lit<}
+use Rattle.std.proofs.Common.{◌≡◌, ◌==◌, ◌&&◌, ◌||◌, ℕ, zero, suc, ◌<◌, Bool, true, false, not, List, [], ◌∷◌, ◌++◌, length, nat_lt, slice_index, refl, arith, lit<}
 use Rattle.std.specs.Prelude.{if◌then◌else◌}
 use Rattle.std.specs.List.{AllByRecursion, join_with_byte, list_all}
 use Rattle.std.proofs.lemmas.Bool.Decides.{nat_tests}
@@ -11,7 +11,7 @@ use Rattle.zr_names.specs.declared.marks.TagKind.TheVariants.{Step, Last}
 use Rattle.zr_cmd.specs.Forms.{is_sign}
 use Rattle.zr_command.specs.declared.command.Cmd.{Cmd}
 use Rattle.zr_command.specs.declared.command.Cmd.TheVariants as cmd
-use Rattle.zr_cmd.specs.Words.{AreNamed, IsGroup, IsJob, IsNamed, IsPath, IsVersion, argv_words, words_of}
+use Rattle.zr_cmd.specs.Words.{AreNamed, IsGroup, IsJob, IsNamed, IsPath, IsVersion, argv_words, words_of, IsToken}
 use Rattle.zr_cmd.specs.declared.argv.Argv.TheVariants as argv
 use Rattle.zr_cmd.specs.declared.forms.ZfsCall.TheVariants as call
 
@@ -119,11 +119,32 @@ pub utf8_tag : (kind : TagKind) (job : List ℕ) → IsJob job → IsUtf8 (tag_t
 utf8_tag kind job name =
     IsUtf8-from_ascii (tag_text kind job) (IsAscii-append (tag_front kind) job (bytes-ascii (tag_front kind) (front-bytes kind)) (plain-ascii job (name-plain 64 job name)))
 
+no-left : (x y : Bool) → (x || y) ≡ false → (x ≡ false) × (y ≡ false)
+no-left true y e = cc
+no-left false y e = (refl, e)
+
+token_byte-small : (b : ℕ) (rest : Bool) → (nat_lt b 32 || nat_lt 126 b || rest) ≡ false → b < 128
+token_byte-small b rest e =
+    let first = no-left (nat_lt b 32 || nat_lt 126 b) rest e in
+    let high : nat_lt 126 b ≡ false = (no-left (nat_lt b 32) (nat_lt 126 b) first.0).1 in
+    grind (arith, nat_tests)
+
+ascii-from : (xs : List ℕ) → ((k : ℕ) → k < length xs → slice_index xs k < 128) → IsAscii xs
+ascii-from [] h i = lit< tt
+ascii-from (x ∷ xs) h zero = h 0 (omega arith)
+ascii-from (x ∷ xs) h (suc i) = ascii-from xs (λ k inside. h (suc k) (omega arith)) i
+
+-- so is a resume token
+pub utf8_token : (token : List ℕ) → IsToken token → IsUtf8 token
+utf8_token token name =
+    IsUtf8-from_ascii token (ascii-from token (λ k inside. token_byte-small (slice_index token k) ((length token == 1) && (slice_index token 0 == 45)) (name.no_place_bad k inside)))
+
 -- a command that is one call has its words
 pub one_words : (program : List ℕ) (c : Cmd) → IsNamed (call.One c) → argv_words program c ≡ argv.One (program ∷ words_of (call.One c))
 one_words program cmd.Sets n = refl
 one_words program (cmd.Versions path) n = refl
 one_words program (cmd.Holds path name) n = refl
+one_words program (cmd.Token token) n = refl
 one_words program (cmd.Snapshot path name) n = refl
 one_words program (cmd.Hold kind job path name) n = refl
 one_words program (cmd.Release kind job path name) n = refl
@@ -138,6 +159,7 @@ pub one_named : (c : Cmd) → IsNamed (call.One c) → AreNamed c
 one_named cmd.Sets n = n
 one_named (cmd.Versions path) n = n
 one_named (cmd.Holds path name) n = n
+one_named (cmd.Token token) n = n
 one_named (cmd.Snapshot path name) n = n
 one_named (cmd.Hold kind job path name) n = n
 one_named (cmd.Release kind job path name) n = n

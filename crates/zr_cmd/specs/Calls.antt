@@ -23,7 +23,9 @@ form_for words =
     else (if bytes_eq (word_at words 0) (codes "bookmark") then (if is_snap words 1 then form.BookmarkSnap else form.BookmarkMark)
     else (if bytes_eq (word_at words 0) (codes "destroy") then (if is_snap words 1 then form.DestroySnaps else form.DestroyMark)
     else (if bytes_eq (word_at words 0) (codes "create") then form.Create
-    else (if bytes_eq (word_at words 0) (codes "send") then (if length words == 2 then form.SendFull else form.SendFrom)
+    else (if bytes_eq (word_at words 0) (codes "send") then (if length words == 2 then form.SendFull
+    else (if length words == 4 then form.SendFrom
+    else (if bytes_eq (word_at words 1) (codes "-nvt") then form.Token else form.SendToken)))
     else (if length words == 3 then form.Abort
     else (if length words == 4 then form.Receive else form.ReceiveForced))))))))))
 

@@ -5,7 +5,7 @@ use Rattle.zr_names.specs.declared.marks.TagKind.{TagKind}
 use Rattle.zr_names.specs.declared.marks.TagKind.TheVariants.{Step, Last}
 use Rattle.zr_command.specs.declared.command.Cmd.TheVariants as cmd
 use Rattle.zr_command.specs.declared.version.VersionName.TheVariants as version
-use Rattle.zr_cmd.specs.Words.{IsGroup, IsJob, IsPath, IsVersion, sets_words, versions_words}
+use Rattle.zr_cmd.specs.Words.{IsGroup, IsJob, IsPath, IsToken, IsVersion, sets_words, versions_words}
 use Rattle.zr_cmd.specs.declared.forms.ZfsCall.{ZfsCall}
 use Rattle.zr_cmd.specs.declared.forms.ZfsCall.TheVariants as call
 use Rattle.zr_cmd.specs.declared.forms.Form.{Form}
@@ -68,6 +68,7 @@ pub data Pattern : Type 0 where
   same_snap : Pattern
   same_mark : Pattern
   a_tag : Pattern
+  a_token : Pattern
 
 -- the word is as the pattern has it, behind the word before
 abbrev pub Suits : Pattern → List ℕ → List ℕ → Type 0
@@ -79,12 +80,14 @@ Suits a_mark before word = IsFull 35 word
 Suits same_snap before word = IsFull 64 word × (set_part word ≡ set_part before)
 Suits same_mark before word = IsFull 35 word × (set_part word ≡ set_part before)
 Suits a_tag before word = IsJobTag word
+Suits a_token before word = IsToken word
 
 -- the words of each form
 abbrev pub patterns_of : Form → List Pattern
 patterns_of form.Sets = map fixed sets_words
 patterns_of form.Versions = map fixed versions_words ++ a_path ∷ []
 patterns_of form.Holds = fixed (codes "holds") ∷ fixed (codes "-H") ∷ a_snap ∷ []
+patterns_of form.Token = fixed (codes "send") ∷ fixed (codes "-nvt") ∷ a_token ∷ []
 patterns_of form.Snapshot = fixed (codes "snapshot") ∷ a_snap ∷ []
 patterns_of form.Hold = fixed (codes "hold") ∷ a_tag ∷ a_snap ∷ []
 patterns_of form.Release = fixed (codes "release") ∷ a_tag ∷ a_snap ∷ []
@@ -97,6 +100,7 @@ patterns_of form.Create =
     ∷ fixed (codes "mountpoint=none") ∷ a_path ∷ []
 patterns_of form.SendFull = fixed (codes "send") ∷ a_snap ∷ []
 patterns_of form.SendFrom = fixed (codes "send") ∷ fixed (codes "-i") ∷ a_mark ∷ same_snap ∷ []
+patterns_of form.SendToken = fixed (codes "send") ∷ fixed (codes "-t") ∷ a_token ∷ []
 patterns_of form.Receive = fixed (codes "receive") ∷ fixed (codes "-s") ∷ fixed (codes "-u") ∷ a_path ∷ []
 patterns_of form.ReceiveForced =
     fixed (codes "receive") ∷ fixed (codes "-s") ∷ fixed (codes "-u") ∷ fixed (codes "-F") ∷ a_path ∷ []
@@ -112,6 +116,7 @@ pattern_of part.Mark = a_mark
 pattern_of part.SnapOfSame = same_snap
 pattern_of part.MarkOfSame = same_mark
 pattern_of part.Tag = a_tag
+pattern_of part.Token = a_token
 
 abbrev pub word_at : List (List ℕ) → ℕ → List ℕ
 word_at words place = slice_index_or words place []
@@ -121,6 +126,7 @@ abbrev pub read_as : Form → List (List ℕ) → ZfsCall
 read_as form.Sets words = call.One cmd.Sets
 read_as form.Versions words = call.One (cmd.Versions (word_at words 11))
 read_as form.Holds words = call.One (cmd.Holds (set_part (word_at words 2)) (name_part (word_at words 2)))
+read_as form.Token words = call.One (cmd.Token (word_at words 2))
 read_as form.Snapshot words = call.One (cmd.Snapshot (set_part (word_at words 1)) (name_part (word_at words 1)))
 read_as form.Hold words =
     call.One (cmd.Hold (kind_part (word_at words 1)) (job_part (word_at words 1)) (set_part (word_at words 2)) (name_part (word_at words 2)))
@@ -135,6 +141,7 @@ read_as form.DestroyMark words = call.One (cmd.DestroyMark (set_part (word_at wo
 read_as form.Create words = call.One (cmd.Create (word_at words 5))
 read_as form.SendFull words = call.SendFull (set_part (word_at words 1)) (name_part (word_at words 1))
 read_as form.SendFrom words = call.SendFrom (set_part (word_at words 2)) (name_part (word_at words 2)) (name_part (word_at words 3))
+read_as form.SendToken words = call.SendToken (word_at words 2)
 read_as form.Receive words = call.Receive (word_at words 3) false
 read_as form.ReceiveForced words = call.Receive (word_at words 4) true
 read_as form.Abort words = call.One (cmd.Abort (word_at words 2))

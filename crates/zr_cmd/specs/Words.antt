@@ -1,8 +1,8 @@
 use Rattle.std.specs.Prelude.{◌≡◌, ◌<◌, ◌≤◌, ℕ, Bool, true, false, List, [], ◌∷◌, ◌++◌, Result, Ok, Err, codes, length, take, ⊤}
 use Rattle.std.specs.List.{AllByRecursion, join_with_byte}
 use Rattle.zr_names.specs.Marks.{tag_text}
-use Rattle.zr_names.specs.Names.{IsName, path_is_bad, name_is_bad}
-use Rattle.zr_names.specs.declared.names.TheConstants.{PATH_LIMIT, NAME_LIMIT, JOB_LIMIT}
+use Rattle.zr_names.specs.Names.{IsName, path_is_bad, name_is_bad, token_is_bad}
+use Rattle.zr_names.specs.declared.names.TheConstants.{PATH_LIMIT, NAME_LIMIT, JOB_LIMIT, TOKEN_LIMIT}
 use Rattle.zr_command.specs.Group.{AreNames}
 use Rattle.zr_command.specs.declared.command.Base.{Base}
 use Rattle.zr_command.specs.declared.command.Base.TheVariants as base
@@ -57,6 +57,7 @@ abbrev pub words_of : ZfsCall → List (List ℕ)
 words_of (call.One cmd.Sets) = sets_words
 words_of (call.One (cmd.Versions path)) = versions_words ++ path ∷ []
 words_of (call.One (cmd.Holds path name)) = codes "holds" ∷ codes "-H" ∷ snap_word path name ∷ []
+words_of (call.One (cmd.Token token)) = codes "send" ∷ codes "-nvt" ∷ token ∷ []
 words_of (call.One (cmd.Snapshot path name)) = codes "snapshot" ∷ snap_word path name ∷ []
 words_of (call.One (cmd.Hold kind job path name)) = codes "hold" ∷ tag_text kind job ∷ snap_word path name ∷ []
 words_of (call.One (cmd.Release kind job path name)) = codes "release" ∷ tag_text kind job ∷ snap_word path name ∷ []
@@ -69,6 +70,7 @@ words_of (call.One (cmd.Transfer transfer)) = []
 words_of (call.One (cmd.Abort path)) = codes "receive" ∷ codes "-A" ∷ path ∷ []
 words_of (call.SendFull path name) = codes "send" ∷ snap_word path name ∷ []
 words_of (call.SendFrom path mark name) = codes "send" ∷ codes "-i" ∷ mark_word path mark ∷ snap_word path name ∷ []
+words_of (call.SendToken token) = codes "send" ∷ codes "-t" ∷ token ∷ []
 words_of (call.Receive path force) = codes "receive" ∷ receive_flags force ++ path ∷ []
 
 abbrev pub IsPath : List ℕ → Type 0
@@ -86,6 +88,9 @@ pub record IsGroup (names : List (List ℕ)) : Type 0 where
 abbrev pub IsJob : List ℕ → Type 0
 IsJob text = IsName name_is_bad JOB_LIMIT text
 
+abbrev pub IsToken : List ℕ → Type 0
+IsToken text = IsName token_is_bad TOKEN_LIMIT text
+
 abbrev pub IsVersionName : VersionName → Type 0
 IsVersionName (version.Snap name) = IsVersion name
 IsVersionName (version.Mark name) = IsVersion name
@@ -95,6 +100,7 @@ abbrev pub IsNamed : ZfsCall → Type 0
 IsNamed (call.One cmd.Sets) = ⊤
 IsNamed (call.One (cmd.Versions path)) = IsPath path
 IsNamed (call.One (cmd.Holds path name)) = IsPath path × IsVersion name
+IsNamed (call.One (cmd.Token token)) = IsToken token
 IsNamed (call.One (cmd.Snapshot path name)) = IsPath path × IsVersion name
 IsNamed (call.One (cmd.Hold kind job path name)) = IsJob job × IsPath path × IsVersion name
 IsNamed (call.One (cmd.Release kind job path name)) = IsJob job × IsPath path × IsVersion name
@@ -106,11 +112,13 @@ IsNamed (call.One (cmd.Transfer transfer)) = ⊥
 IsNamed (call.One (cmd.Abort path)) = IsPath path
 IsNamed (call.SendFull path name) = IsPath path × IsVersion name
 IsNamed (call.SendFrom path mark name) = IsPath path × IsVersion mark × IsVersion name
+IsNamed (call.SendToken token) = IsToken token
 IsNamed (call.Receive path force) = IsPath path
 
 abbrev pub send_from : Transfer → Base → ZfsCall
 send_from transfer base.Full = call.SendFull transfer.source transfer.to
 send_from transfer (base.From mark guid) = call.SendFrom transfer.source mark transfer.to
+send_from transfer (base.Resume token from) = call.SendToken token
 
 -- the sending end of a transfer
 abbrev pub send_of : Transfer → ZfsCall

@@ -9,14 +9,14 @@ ghost use Rattle.zr_command.specs.declared.command.Cmd.TheVariants as command;
 ghost use Rattle.zr_command.specs.declared.command.Transfer.{Transfer as TransferValue};
 ghost use Rattle.zr_cmd.specs.declared.forms.ZfsCall.TheVariants as call;
 ghost use Rattle.zr_cmd.specs.Steps.{with_commas};
-ghost use Rattle.zr_cmd.specs.Words.{AreNamed, argv_words, group_word, IsGroup, IsJob, IsNamed, IsPath, IsVersion, IsVersionName, mark_word, send_of, sets_words, snap_word, version_word, versions_words, words_of};
+ghost use Rattle.zr_cmd.specs.Words.{AreNamed, argv_words, group_word, IsGroup, IsJob, IsNamed, IsPath, IsToken, IsVersion, IsVersionName, mark_word, send_of, sets_words, snap_word, version_word, versions_words, words_of};
 
 use crate::cutting::tag_front;
 use crate::words::Words;
 use std::alloc::{AllocError, Global};
 use std::str;
 use zr_command::{Base, Cmd, Names, Transfer, VersionName};
-use zr_names::{JobName, MarkName, NoMemory, Path, SnapName, TagKind};
+use zr_names::{JobName, MarkName, NoMemory, Path, SnapName, TagKind, TokenText};
 
 /// Why words are no call.
 #[derive(Clone, Copy, PartialEq, Eq)]
@@ -111,6 +111,22 @@ fn push_path(alloc: Global, words: &mut Words, path: &Path) -> Result<(), AllocE
     ensures named { OnOk result (IsPath path.now) }
 {
     words.push(word_of(alloc, path.as_bytes())?)
+}
+
+/// Takes these words and a resume token.
+#[tactic(auto, using(crate::proofs::Texts::utf8_token))]
+fn push_with_token(
+    alloc: Global,
+    words: &mut Words,
+    texts: &[&str],
+    token: &TokenText,
+) -> Result<(), AllocError>
+    ensures words { OnOk result
+        (words.new ≡ words.old ++ (map (λ text. text.now) texts.now ++ token.now ∷ [])) }
+    ensures named { OnOk result (IsToken token.now) }
+{
+    words.push_all(alloc, texts)?;
+    words.push(word_of(alloc, token.as_bytes())?)
 }
 
 /// A path, a sign and a name as one word.
@@ -368,6 +384,7 @@ fn push_send(alloc: Global, words: &mut Words, transfer: &Transfer) -> Result<()
     match &transfer.base {
         Base::Full => push_with_snap(alloc, words, &["send"], &transfer.source, &transfer.to),
         Base::From(mark, _) => push_send_from(alloc, words, &transfer.source, mark, &transfer.to),
+        Base::Resume(token, _) => push_with_token(alloc, words, &["send", "-t"], token),
     }
 }
 
@@ -381,6 +398,7 @@ fn push_words(alloc: Global, words: &mut Words, cmd: &Cmd) -> Result<(), AllocEr
         Cmd::Sets => push_sets(alloc, words),
         Cmd::Versions(path) => push_listing(alloc, words, path),
         Cmd::Holds(path, name) => push_with_snap(alloc, words, &["holds", "-H"], path, name),
+        Cmd::Token(token) => push_with_token(alloc, words, &["send", "-nvt"], token),
         Cmd::Snapshot(path, name) => push_with_snap(alloc, words, &["snapshot"], path, name),
         Cmd::Hold(kind, job, path, name) => push_hold(alloc, words, "hold", *kind, job, path, name),
         Cmd::Release(kind, job, path, name) => {
@@ -439,6 +457,7 @@ pub fn argv_of(alloc: Global, program: &str, cmd: &Cmd) -> Result<Argv, NoMemory
         Cmd::Sets
         | Cmd::Versions(_)
         | Cmd::Holds(_, _)
+        | Cmd::Token(_)
         | Cmd::Snapshot(_, _)
         | Cmd::Hold(_, _, _, _)
         | Cmd::Release(_, _, _, _)

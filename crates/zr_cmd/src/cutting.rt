@@ -7,13 +7,13 @@ ghost use Rattle.std.specs.List.{AllByRecursion, position_or_len};
 ghost use Rattle.zr_names.specs.Marks.{tag_front};
 ghost use Rattle.zr_cmd.specs.Forms.{IsFull, IsFullGroup, is_sign, IsJobTag, job_part, kind_part, name_part, names_in, set_part, word_at};
 ghost use Rattle.zr_cmd.specs.Steps.{ReadsGroup, texts};
-ghost use Rattle.zr_cmd.specs.Words.{IsGroup, IsJob, IsPath, IsVersion};
+ghost use Rattle.zr_cmd.specs.Words.{IsGroup, IsJob, IsPath, IsToken, IsVersion};
 
 use std::alloc::Global;
 use zr_command::{Names, read_names};
 use zr_names::{
-    JobName, MarkName, NameFault, NoMemory, Path, SnapName, TagKind, read_job, read_mark,
-    read_path, read_snap,
+    JobName, MarkName, NameFault, NoMemory, Path, SnapName, TagKind, TokenText, read_job,
+    read_mark, read_path, read_snap, read_token_text,
 };
 
 /// The bytes of a word, and none where it is missing.
@@ -106,6 +106,29 @@ pub(crate) fn is_path(alloc: Global, text: &[u8]) -> Result<bool, NoMemory>
     match read_path(alloc, text) {
         Ok(_) => Ok(true),
         Err(NameFault::Empty | NameFault::BadByte(_) | NameFault::TooLong(_)) => Ok(false),
+        Err(NameFault::NoMemory) => Err(NoMemory),
+    }
+}
+
+/// Whether a text is a resume token.
+pub(crate) fn is_token(alloc: Global, text: &[u8]) -> Result<bool, NoMemory>
+    ensures { IfOk result (λ yes. Decides yes (IsToken text.now)) }
+{
+    match read_token_text(alloc, text) {
+        Ok(_) => Ok(true),
+        Err(NameFault::Empty | NameFault::BadByte(_) | NameFault::TooLong(_)) => Ok(false),
+        Err(NameFault::NoMemory) => Err(NoMemory),
+    }
+}
+
+/// The resume token that a text is.
+pub(crate) fn token_of(alloc: Global, text: &[u8]) -> Result<TokenText, NoMemory>
+    requires { IsToken text.now }
+    ensures { IfOk result (λ token. token ≡ text.now) }
+{
+    match read_token_text(alloc, text) {
+        Ok(token) => Ok(token),
+        Err(NameFault::Empty | NameFault::BadByte(_) | NameFault::TooLong(_)) => unreachable!(),
         Err(NameFault::NoMemory) => Err(NoMemory),
     }
 }

@@ -1,7 +1,7 @@
 //! The table of forms: which words each call has. Both the writer and the reader go by it.
 
 use zr_command::Cmd;
-use zr_names::{MarkName, Path, SnapName};
+use zr_names::{MarkName, Path, SnapName, TokenText};
 
 /// One call of `zfs`, as its words tell it.
 #[derive(Drop)]
@@ -12,6 +12,8 @@ pub enum ZfsCall {
     SendFull(Path, SnapName),
     /// Sends what changed since a bookmark of the same dataset (zfs-send(8), `-i`).
     SendFrom(Path, MarkName, SnapName),
+    /// Sends from where an interrupted receive stopped (zfs-send(8), `-t`).
+    SendToken(TokenText),
     /// Receives into a dataset, by force or not (zfs-receive(8), `-F`).
     Receive(Path, bool),
 }
@@ -35,6 +37,8 @@ pub enum Part {
     MarkOfSame,
     /// The tag of a job.
     Tag,
+    /// A resume token.
+    Token,
 }
 
 /// How the words of a call are laid out.
@@ -43,6 +47,7 @@ pub enum Form {
     Sets,
     Versions,
     Holds,
+    Token,
     Snapshot,
     Hold,
     Release,
@@ -53,15 +58,17 @@ pub enum Form {
     Create,
     SendFull,
     SendFrom,
+    SendToken,
     Receive,
     ReceiveForced,
     Abort,
 }
 
-pub(crate) const FORMS: [Form; 16] = [
+pub(crate) const FORMS: [Form; 18] = [
     Form::Sets,
     Form::Versions,
     Form::Holds,
+    Form::Token,
     Form::Snapshot,
     Form::Hold,
     Form::Release,
@@ -72,6 +79,7 @@ pub(crate) const FORMS: [Form; 16] = [
     Form::Create,
     Form::SendFull,
     Form::SendFrom,
+    Form::SendToken,
     Form::Receive,
     Form::ReceiveForced,
     Form::Abort,
@@ -103,6 +111,8 @@ const VERSIONS: [Part; 12] = [
 ];
 
 const HOLDS: [Part; 3] = [Part::Fixed("holds"), Part::Fixed("-H"), Part::Snap];
+
+const TOKEN: [Part; 3] = [Part::Fixed("send"), Part::Fixed("-nvt"), Part::Token];
 
 const SNAPSHOT: [Part; 2] = [Part::Fixed("snapshot"), Part::Snap];
 
@@ -136,6 +146,8 @@ const SEND_FROM: [Part; 4] = [
     Part::SnapOfSame,
 ];
 
+const SEND_TOKEN: [Part; 3] = [Part::Fixed("send"), Part::Fixed("-t"), Part::Token];
+
 const RECEIVE: [Part; 4] = [
     Part::Fixed("receive"),
     Part::Fixed("-s"),
@@ -165,6 +177,7 @@ impl Form {
             Form::Sets => &SETS,
             Form::Versions => &VERSIONS,
             Form::Holds => &HOLDS,
+            Form::Token => &TOKEN,
             Form::Snapshot => &SNAPSHOT,
             Form::Hold => &HOLD,
             Form::Release => &RELEASE,
@@ -175,6 +188,7 @@ impl Form {
             Form::Create => &CREATE,
             Form::SendFull => &SEND_FULL,
             Form::SendFrom => &SEND_FROM,
+            Form::SendToken => &SEND_TOKEN,
             Form::Receive => &RECEIVE,
             Form::ReceiveForced => &RECEIVE_FORCED,
             Form::Abort => &ABORT,

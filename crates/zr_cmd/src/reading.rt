@@ -2,7 +2,7 @@
 
 ghost use Rattle.std.specs.Prelude.{◌≡◌, IfOk, map};
 ghost use Rattle.std.specs.Bool.{Decides};
-ghost use Rattle.zr_cmd.specs.Forms.{Suits, job_part, kind_part, name_part, pattern_of, patterns_of, read_as, set_part, word_at};
+ghost use Rattle.zr_cmd.specs.Forms.{Suits, job_part, kind_part, name_part, pattern_of, read_as, set_part, word_at};
 ghost use Rattle.zr_cmd.specs.Steps.{IsFront, texts};
 ghost use Rattle.zr_cmd.specs.Words.{IsJob, IsNamed, IsPath, IsVersion, Reads};
 ghost use Rattle.zr_cmd.specs.declared.forms.ZfsCall.TheVariants as call;
@@ -10,8 +10,8 @@ ghost use Rattle.zr_cmd.specs.declared.forms.Form.TheVariants as form;
 
 use crate::argv::ArgvFault;
 use crate::cutting::{
-    group_of, is_full, is_full_group, is_job_tag, is_path, is_same_set, job_of, job_part,
-    kind_part, mark_of, name_part, path_of, set_part, snap_of, word_at,
+    group_of, is_full, is_full_group, is_job_tag, is_path, is_same_set, is_token, job_of, job_part,
+    kind_part, mark_of, name_part, path_of, set_part, snap_of, token_of, word_at,
 };
 use crate::forms::{FORMS, Form, Part, ZfsCall};
 use std::alloc::Global;
@@ -31,6 +31,7 @@ fn fits(alloc: Global, part: Part, before: &[u8], word: &[u8]) -> Result<bool, N
         Part::SnapOfSame => Ok(is_full(alloc, b'@', word)? && is_same_set(word, before)),
         Part::MarkOfSame => Ok(is_full(alloc, b'#', word)? && is_same_set(word, before)),
         Part::Tag => is_job_tag(alloc, word),
+        Part::Token => is_token(alloc, word),
     }
 }
 
@@ -150,6 +151,15 @@ fn holds_as(alloc: Global, words: &[String]) -> Result<ZfsCall, NoMemory>
     Ok(ZfsCall::One(Cmd::Holds(path, name)))
 }
 
+/// The call of these words of a listing of what a token says.
+fn token_as(alloc: Global, words: &[String]) -> Result<ZfsCall, NoMemory>
+    requires { IsNamed (read_as form.Token (texts words.now)) }
+    ensures { IfOk result (λ given. given ≡ read_as form.Token (texts words.now)) }
+{
+    let token = token_of(alloc, word_at(words, 2))?;
+    Ok(ZfsCall::One(Cmd::Token(token)))
+}
+
 /// The call of these words of a snapshot.
 fn snapshot_as(alloc: Global, words: &[String]) -> Result<ZfsCall, NoMemory>
     requires { IsNamed (read_as form.Snapshot (texts words.now)) }
@@ -227,6 +237,7 @@ fn call_as(alloc: Global, form: Form, words: &[String]) -> Result<ZfsCall, NoMem
         Form::Sets => Ok(ZfsCall::One(Cmd::Sets)),
         Form::Versions => versions_as(alloc, words),
         Form::Holds => holds_as(alloc, words),
+        Form::Token => token_as(alloc, words),
         Form::Snapshot => snapshot_as(alloc, words),
         Form::Hold => hold_as(alloc, words),
         Form::Release => release_as(alloc, words),
@@ -237,6 +248,7 @@ fn call_as(alloc: Global, form: Form, words: &[String]) -> Result<ZfsCall, NoMem
         Form::Create => create_as(alloc, words),
         Form::SendFull => send_full_as(alloc, words),
         Form::SendFrom => send_from_as(alloc, words),
+        Form::SendToken => Ok(ZfsCall::SendToken(token_of(alloc, word_at(words, 2))?)),
         Form::Receive => Ok(ZfsCall::Receive(path_of(alloc, word_at(words, 3))?, false)),
         Form::ReceiveForced => Ok(ZfsCall::Receive(path_of(alloc, word_at(words, 4))?, true)),
         Form::Abort => abort_as(alloc, words),

@@ -1,4 +1,4 @@
-use Rattle.std.specs.Prelude.{Option, Some, None}
+use Rattle.std.specs.Prelude.{ℕ, List, Option, Some, None, codes}
 use Rattle.zr_names.specs.declared.unit.Guid.{Guid}
 use Rattle.zr_command.specs.declared.command.Base.{Base}
 use Rattle.zr_command.specs.declared.command.Base.TheVariants as base
@@ -10,13 +10,24 @@ use Rattle.zr_command.specs.declared.command.Transfer.{Transfer}
 abbrev pub no_guid : Guid
 no_guid = record { 0 = 0 }
 
-abbrev pub plain_base : Base → Base
-plain_base base.Full = base.Full
-plain_base (base.From mark guid) = base.From mark no_guid
+-- stands where no path and no snapshot is named
+abbrev pub no_name : List ℕ
+no_name = codes "-"
 
--- a transfer as its words tell it: they name no guids
+-- a resume with this token as its words tell it: they name neither the source nor the snapshot
+abbrev pub resumed : Transfer → List ℕ → Transfer
+resumed transfer token =
+    record transfer { source = no_name; to = no_name; guid = no_guid; base = base.Resume token None }
+
+-- a transfer of this base as its words tell it: they name no guids
+abbrev pub plain_from : Transfer → Base → Transfer
+plain_from transfer base.Full = record transfer { guid = no_guid; base = base.Full }
+plain_from transfer (base.From mark guid) = record transfer { guid = no_guid; base = base.From mark no_guid }
+plain_from transfer (base.Resume token from) = resumed transfer token
+
+-- a transfer as its words tell it
 abbrev pub plain_transfer : Transfer → Transfer
-plain_transfer transfer = record transfer { guid = no_guid; base = plain_base transfer.base }
+plain_transfer transfer = plain_from transfer transfer.base
 
 -- a command as its words tell it
 abbrev pub plain : Cmd → Cmd
@@ -26,3 +37,4 @@ plain command = command
 abbrev pub base_guid : Base → Option Guid
 base_guid base.Full = None
 base_guid (base.From mark guid) = Some guid
+base_guid (base.Resume token from) = from

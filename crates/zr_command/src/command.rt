@@ -1,11 +1,14 @@
 //! Commands, replies, answers and the entries of a record, with their copies.
 
 ghost use Rattle.std.specs.Prelude.{◌≡◌, IfOk};
+ghost use Rattle.zr_command.specs.Plain.{no_guid, no_name};
 
 use crate::names::Names;
-use crate::version::{SetRow, VersionName, VersionRow};
-use std::alloc::AllocError;
-use zr_names::{Bytes, Guid, JobName, MarkName, Path, Rows, Same, SnapName, Tag, TagKind, Unit};
+use crate::version::{SetRow, TokenInfo, VersionName, VersionRow};
+use std::alloc::{AllocError, Global};
+use zr_names::{
+    Bytes, Guid, JobName, MarkName, Path, Rows, Same, SnapName, Tag, TagKind, TokenText, Unit,
+};
 
 /// What a transfer starts from (zfs-send(8)).
 #[derive(Drop)]
@@ -14,6 +17,9 @@ pub enum Base {
     Full,
     /// From a bookmark on the source, of this guid: what changed since is sent.
     From(MarkName, Guid),
+    /// From where an interrupted receive stopped (zfs-send(8), `-t`): its token, and the guid of what the stream goes on from,
+    /// if it is not in full.
+    Resume(TokenText, Option<Guid>),
 }
 
 /// A send of one snapshot into a receive (zfs-send(8), zfs-receive(8)).
@@ -38,6 +44,8 @@ pub enum Cmd {
     Versions(Path),
     /// Lists the holds of a snapshot (zfs-holds(8)).
     Holds(Path, SnapName),
+    /// Lists what a resume token says (zfs-send(8), `-nvt`).
+    Token(TokenText),
     /// Takes a snapshot of a dataset (zfs-snapshot(8)).
     Snapshot(Path, SnapName),
     /// Puts the hold of a job on a snapshot (zfs-hold(8)).
@@ -66,6 +74,7 @@ pub enum Reply {
     Versions(Rows<VersionRow>),
     /// The tags of a snapshot's holds.
     Holds(Rows<Tag>),
+    Token(TokenInfo),
 }
 
 /// How a command was answered.
@@ -82,7 +91,7 @@ pub enum Answer {
 
 impl Base {
     ghost use Rattle.std.specs.Prelude.{◌≡◌, IfOk};
-    ghost use Rattle.zr_command.specs.Plain.{base_guid, plain_base};
+    ghost use Rattle.zr_command.specs.Plain.{base_guid};
 
     /// The guid that the target's newest snapshot has to have.
     pub fn guid(&self) -> Option<Guid>
@@ -91,34 +100,68 @@ impl Base {
         match self {
             Base::Full => None,
             Base::From(_, guid) => Some(*guid),
-        }
-    }
-
-    fn plain(&self) -> Result<Base, AllocError>
-        ensures { IfOk result (λ base. base ≡ plain_base self.now) }
-    {
-        match self {
-            Base::Full => Ok(Base::Full),
-            Base::From(mark, _) => Ok(Base::From(mark.same()?, Guid(0))),
+            Base::Resume(_, from) => *from,
         }
     }
 }
 
+/// The path that stands where words name none.
+#[tactic(auto, using(crate::proofs::Unnamed::unnamed_path))]
+fn no_path(alloc: Global) -> Result<Path, AllocError>
+    ensures { IfOk result (λ path. path ≡ no_name) }
+{
+    Ok(Path::new(Bytes::from_slice(alloc, b"-")?))
+}
+
+/// The snapshot's name that stands where words name none.
+#[tactic(auto, using(crate::proofs::Unnamed::unnamed_snap))]
+fn no_snap(alloc: Global) -> Result<SnapName, AllocError>
+    ensures { IfOk result (λ name. name ≡ no_name) }
+{
+    Ok(SnapName::new(Bytes::from_slice(alloc, b"-")?))
+}
+
 impl Transfer {
     ghost use Rattle.std.specs.Prelude.{◌≡◌, IfOk};
-    ghost use Rattle.zr_command.specs.Plain.{plain_transfer};
+    ghost use Rattle.zr_command.specs.Plain.{plain_transfer, resumed};
 
-    fn plain(&self) -> Result<Transfer, AllocError>
-        ensures { IfOk result (λ transfer. transfer ≡ plain_transfer self.now) }
+    /// A transfer of this base as its words tell it, where they name the source and the snapshot.
+    fn named(&self, base: Base) -> Result<Transfer, AllocError>
+        ensures { IfOk result
+            (λ transfer. transfer ≡ record self.now { guid = no_guid; base = base }) }
     {
         Ok(Transfer {
             source: self.source.same()?,
             to: self.to.same()?,
             guid: Guid(0),
-            base: self.base.plain()?,
+            base,
             target: self.target.same()?,
             force: self.force,
         })
+    }
+
+    /// A resume with this token as its words tell it.
+    fn resumed(&self, alloc: Global, token: &TokenText) -> Result<Transfer, AllocError>
+        ensures { IfOk result (λ transfer. transfer ≡ resumed self.now token.now) }
+    {
+        Ok(Transfer {
+            source: no_path(alloc)?,
+            to: no_snap(alloc)?,
+            guid: Guid(0),
+            base: Base::Resume(token.same()?, None),
+            target: self.target.same()?,
+            force: self.force,
+        })
+    }
+
+    fn plain(&self, alloc: Global) -> Result<Transfer, AllocError>
+        ensures { IfOk result (λ transfer. transfer ≡ plain_transfer self.now) }
+    {
+        match &self.base {
+            Base::Full => self.named(Base::Full),
+            Base::From(mark, _) => self.named(Base::From(mark.same()?, Guid(0))),
+            Base::Resume(token, _) => self.resumed(alloc, token),
+        }
     }
 }
 
@@ -126,15 +169,17 @@ impl Cmd {
     ghost use Rattle.std.specs.Prelude.{◌≡◌, IfOk};
     ghost use Rattle.zr_command.specs.Plain.{plain};
 
-    /// The command as its words tell it: those of a transfer name no guids.
-    pub fn plain(&self) -> Result<Cmd, AllocError>
+    /// The command as its words tell it: those of a transfer name no guids, and those of a resume neither the source nor
+    /// the snapshot.
+    pub fn plain(&self, alloc: Global) -> Result<Cmd, AllocError>
         ensures { IfOk result (λ command. command ≡ plain self.now) }
     {
         match self {
-            Cmd::Transfer(transfer) => Ok(Cmd::Transfer(transfer.plain()?)),
+            Cmd::Transfer(transfer) => Ok(Cmd::Transfer(transfer.plain(alloc)?)),
             Cmd::Sets
             | Cmd::Versions(_)
             | Cmd::Holds(_, _)
+            | Cmd::Token(_)
             | Cmd::Snapshot(_, _)
             | Cmd::Hold(_, _, _, _)
             | Cmd::Release(_, _, _, _)
@@ -191,6 +236,7 @@ impl Same for Base {
         match self {
             Base::Full => Ok(Base::Full),
             Base::From(mark, guid) => Ok(Base::From(mark.same()?, *guid)),
+            Base::Resume(token, from) => Ok(Base::Resume(token.same()?, *from)),
         }
     }
 }
@@ -214,6 +260,7 @@ impl Same for Cmd {
             Cmd::Sets => Ok(Cmd::Sets),
             Cmd::Versions(path) => Ok(Cmd::Versions(path.same()?)),
             Cmd::Holds(path, name) => Ok(Cmd::Holds(path.same()?, name.same()?)),
+            Cmd::Token(token) => Ok(Cmd::Token(token.same()?)),
             Cmd::Snapshot(path, name) => Ok(Cmd::Snapshot(path.same()?, name.same()?)),
             Cmd::Hold(kind, job, path, name) => same_hold(*kind, job, path, name),
             Cmd::Release(kind, job, path, name) => same_release(*kind, job, path, name),
@@ -234,6 +281,7 @@ impl Same for Reply {
             Reply::Sets(rows) => Ok(Reply::Sets(rows.same()?)),
             Reply::Versions(rows) => Ok(Reply::Versions(rows.same()?)),
             Reply::Holds(tags) => Ok(Reply::Holds(tags.same()?)),
+            Reply::Token(info) => Ok(Reply::Token(*info)),
         }
     }
 }

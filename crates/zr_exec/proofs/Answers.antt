@@ -25,20 +25,21 @@ use Rattle.zr_command.specs.declared.version.VersionRow.{VersionRow}
 use Rattle.zr_exec.specs.declared.spawn.Line.{Line}
 use Rattle.zr_exec.specs.declared.spawn.RunExit.{RunExit}
 use Rattle.zr_exec.specs.declared.spawn.RunExit.TheVariants as exit
-use Rattle.zr_exec.specs.Answering.{IsAnswer, IsCutAt, IsFailure, IsGarbledAt}
+use Rattle.zr_exec.specs.Answering.{IsAnswer, IsCutAt, IsFailedStatus, IsFailure, IsGarbledAt}
 use Rattle.zr_exec.specs.Columns.{hold_of, set_row_of, version_row_of}
-use Rattle.zr_exec.specs.Entries.{answer_in, answer_of, cut_answer, entries_of, entries_of_call, rows_answer, versions_reply}
+use Rattle.zr_exec.specs.Entries.{answer_anyhow, answer_in, answer_of, cut_answer, entries_of, entries_of_call, rows_answer, token_answer, token_answer_anyhow, versions_reply}
 use Rattle.zr_exec.specs.Listed.{Listed, listed_by}
 use Rattle.zr_exec.specs.Listed as listed
 use Rattle.zr_exec.specs.Recording.{call_line, RecordsChild, with_lines}
 use Rattle.zr_exec.specs.Rows.{in_order}
-use Rattle.zr_exec.specs.Serving.{Does, IsReply, Serves}
+use Rattle.zr_exec.specs.Serving.{Does, IsReply, IsReplyAnyhow, Serves}
 use Rattle.zr_exec.specs.Commands.{words_behind}
 use Rattle.zr_exec.proofs.Commands.{behind_itself, command_by-started, plain_named, StartsOne}
 use Rattle.zr_exec.proofs.HoldLines.{hold_of-spelled, IsHoldLine-read}
 use Rattle.zr_exec.proofs.Orders.{in_order-same, in_order-sorted}
 use Rattle.zr_exec.proofs.RowLists.{ReadsLines, rows_in-bad, rows_in-whole}
 use Rattle.zr_exec.proofs.SetLines.{IsSetLine-read, set_row_of-spelled}
+use Rattle.zr_exec.proofs.TokenContents.{info_in-bad, info_in-whole}
 use Rattle.zr_exec.proofs.Told.{begin_told}
 use Rattle.zr_exec.proofs.Unique.{order_unique}
 use Rattle.zr_exec.proofs.VersionLines.{IsVersionLine-read, version_row_of-spelled}
@@ -46,7 +47,7 @@ use Rattle.zr_exec.proofs.VersionLines.{IsVersionLine-read, version_row_of-spell
 -- what a child did before memory was refused
 pub does_short : (command : Cmd) (before after : Pools) (ended : RunExit) (bytes : List ℕ) → Does command before after ended bytes → Does command before after exit.NoMemory bytes
 does_short command before after exit.Done bytes does = (extent.Whole, Ok does.0, does.1)
-does_short command before after exit.Nonzero bytes does = does
+does_short command before after exit.Nonzero bytes does = does.some
 does_short command before after exit.Failed bytes does = does
 does_short command before after exit.TooLong bytes does = does
 does_short command before after exit.NoMemory bytes does = does
@@ -84,18 +85,38 @@ reply-answered listed.sets bytes reply.Nothing is = absurd is
 reply-answered listed.sets bytes (reply.Sets rows) is = sets-answered bytes rows is
 reply-answered listed.sets bytes (reply.Versions rows) is = absurd is
 reply-answered listed.sets bytes (reply.Holds tags) is = absurd is
+reply-answered listed.sets bytes (reply.Token info) is = absurd is
 reply-answered (listed.versions path) bytes reply.Nothing is = absurd is
 reply-answered (listed.versions path) bytes (reply.Sets rows) is = absurd is
 reply-answered (listed.versions path) bytes (reply.Versions rows) is = versions-answered path bytes rows is
 reply-answered (listed.versions path) bytes (reply.Holds tags) is = absurd is
+reply-answered (listed.versions path) bytes (reply.Token info) is = absurd is
 reply-answered (listed.holds path name) bytes reply.Nothing is = absurd is
 reply-answered (listed.holds path name) bytes (reply.Sets rows) is = absurd is
 reply-answered (listed.holds path name) bytes (reply.Versions rows) is = absurd is
 reply-answered (listed.holds path name) bytes (reply.Holds tags) is = holds-answered path name bytes tags is
+reply-answered (listed.holds path name) bytes (reply.Token info) is = absurd is
+reply-answered listed.token bytes reply.Nothing is = absurd is
+reply-answered listed.token bytes (reply.Sets rows) is = absurd is
+reply-answered listed.token bytes (reply.Versions rows) is = absurd is
+reply-answered listed.token bytes (reply.Holds tags) is = absurd is
+reply-answered listed.token bytes (reply.Token info) is = ap token_answer (info_in-whole bytes info is)
 reply-answered listed.nothing bytes reply.Nothing is = refl
 reply-answered listed.nothing bytes (reply.Sets rows) is = absurd is
 reply-answered listed.nothing bytes (reply.Versions rows) is = absurd is
 reply-answered listed.nothing bytes (reply.Holds tags) is = absurd is
+reply-answered listed.nothing bytes (reply.Token info) is = absurd is
+
+anyhow-answered : (what : Listed) (bytes : List ℕ) (given : Reply) → IsReplyAnyhow what bytes given → answer_anyhow what bytes ≡ answer.Done given
+anyhow-answered listed.sets bytes given is = absurd is
+anyhow-answered (listed.versions path) bytes given is = absurd is
+anyhow-answered (listed.holds path name) bytes given is = absurd is
+anyhow-answered listed.token bytes reply.Nothing is = absurd is
+anyhow-answered listed.token bytes (reply.Sets rows) is = absurd is
+anyhow-answered listed.token bytes (reply.Versions rows) is = absurd is
+anyhow-answered listed.token bytes (reply.Holds tags) is = absurd is
+anyhow-answered listed.token bytes (reply.Token info) is = ap token_answer_anyhow (info_in-whole bytes info is)
+anyhow-answered listed.nothing bytes given is = absurd is
 
 garbled-answered : (what : Listed) (bytes : List ℕ) (n : ℕ) → IsGarbledAt what bytes n → answer_in what bytes ≡ answer.Garbled n
 garbled-answered listed.sets bytes n is =
@@ -104,34 +125,40 @@ garbled-answered (listed.versions path) bytes n is =
     ap (rows_answer versions_reply) (rows_in-bad (IsVersionLine path) (version_row_of path) (λ (row : VersionRow). full_name path row.name) (versions-read path) bytes n is)
 garbled-answered (listed.holds path name) bytes n is =
     ap (rows_answer reply.Holds) (rows_in-bad (IsHoldLine path name) (hold_of path name) (λ (tag : List ℕ). tag) (holds-read path name) bytes n is)
+garbled-answered listed.token bytes n is = ap token_answer (info_in-bad bytes n is)
 garbled-answered listed.nothing bytes n is = absurd is
 
 cut-answered : (what : Listed) (bytes : List ℕ) (n : ℕ) → IsCutAt what bytes n → cut_answer what bytes ≡ answer.Garbled n
 cut-answered listed.sets bytes n is = ap answer.Garbled (sym is)
 cut-answered (listed.versions path) bytes n is = ap answer.Garbled (sym is)
 cut-answered (listed.holds path name) bytes n is = ap answer.Garbled (sym is)
+cut-answered listed.token bytes n is = ap answer.Garbled (sym is)
 cut-answered listed.nothing bytes n is = absurd is
 
-failure-answered : (what : Listed) (ended : RunExit) (bytes : List ℕ) → IsFailure what ended → answer_of what ended bytes ≡ answer.Failed
-failure-answered listed.sets exit.Done bytes is = absurd is
-failure-answered (listed.versions path) exit.Done bytes is = absurd is
-failure-answered (listed.holds path name) exit.Done bytes is = absurd is
-failure-answered listed.nothing exit.Done bytes is = absurd is
-failure-answered listed.sets exit.Nonzero bytes is = refl
-failure-answered (listed.versions path) exit.Nonzero bytes is = refl
-failure-answered (listed.holds path name) exit.Nonzero bytes is = refl
-failure-answered listed.nothing exit.Nonzero bytes is = refl
-failure-answered listed.sets exit.Failed bytes is = refl
-failure-answered (listed.versions path) exit.Failed bytes is = refl
-failure-answered (listed.holds path name) exit.Failed bytes is = refl
-failure-answered listed.nothing exit.Failed bytes is = refl
+status-answered : (what : Listed) (bytes : List ℕ) → IsFailedStatus what bytes → answer_anyhow what bytes ≡ answer.Failed
+status-answered listed.sets bytes is = refl
+status-answered (listed.versions path) bytes is = refl
+status-answered (listed.holds path name) bytes is = refl
+status-answered listed.token bytes is = ap token_answer_anyhow (info_in-bad bytes is.0 is.1)
+status-answered listed.nothing bytes is = refl
+
+failure-answered : (what : Listed) (ended : RunExit) (bytes : List ℕ) → IsFailure what ended bytes → answer_of what ended bytes ≡ answer.Failed
+failure-answered what exit.Nonzero bytes is = status-answered what bytes is
+failure-answered what exit.Failed bytes is = refl
+failure-answered listed.nothing exit.TooLong bytes is = refl
 failure-answered listed.sets exit.TooLong bytes is = absurd is
 failure-answered (listed.versions path) exit.TooLong bytes is = absurd is
 failure-answered (listed.holds path name) exit.TooLong bytes is = absurd is
-failure-answered listed.nothing exit.TooLong bytes is = refl
+failure-answered listed.token exit.TooLong bytes is = absurd is
+failure-answered listed.sets exit.Done bytes is = absurd is
+failure-answered (listed.versions path) exit.Done bytes is = absurd is
+failure-answered (listed.holds path name) exit.Done bytes is = absurd is
+failure-answered listed.token exit.Done bytes is = absurd is
+failure-answered listed.nothing exit.Done bytes is = absurd is
 failure-answered listed.sets exit.NoMemory bytes is = absurd is
 failure-answered (listed.versions path) exit.NoMemory bytes is = absurd is
 failure-answered (listed.holds path name) exit.NoMemory bytes is = absurd is
+failure-answered listed.token exit.NoMemory bytes is = absurd is
 failure-answered listed.nothing exit.NoMemory bytes is = absurd is
 
 -- the answer that the rule allows is the one that it gives, where memory was not refused
@@ -144,7 +171,7 @@ answered what exit.Nonzero bytes answer.Failed is some = failure-answered what e
 answered what exit.Failed bytes answer.Failed is some = failure-answered what exit.Failed bytes is
 answered what exit.TooLong bytes answer.Failed is some = failure-answered what exit.TooLong bytes is
 answered what exit.NoMemory bytes answer.Failed is some = failure-answered what exit.NoMemory bytes is
-answered what exit.Nonzero bytes (answer.Done given) is some = absurd is
+answered what exit.Nonzero bytes (answer.Done given) is some = anyhow-answered what bytes given is
 answered what exit.Nonzero bytes (answer.Garbled n) is some = absurd is
 answered what exit.Failed bytes (answer.Done given) is some = absurd is
 answered what exit.Failed bytes (answer.Garbled n) is some = absurd is
@@ -176,11 +203,12 @@ module _ (program : List ℕ) where
   told old new all command ended bytes (answer.Garbled n) starts now is =
       told-as old new all command ended bytes (answer.Garbled n) starts now is refl
 
-  no-failure : (what : Listed) → IsFailure what exit.NoMemory → ⊥
-  no-failure listed.sets is = is
-  no-failure (listed.versions path) is = is
-  no-failure (listed.holds path name) is = is
-  no-failure listed.nothing is = is
+  no-failure : (what : Listed) (bytes : List ℕ) → IsFailure what exit.NoMemory bytes → ⊥
+  no-failure listed.sets bytes is = is
+  no-failure (listed.versions path) bytes is = is
+  no-failure (listed.holds path name) bytes is = is
+  no-failure listed.token bytes is = is
+  no-failure listed.nothing bytes is = is
 
   short-told : (old new : Option (List Line)) (all : List (List ℕ)) (command : Cmd) (bytes : List ℕ) (given : Answer) → StartsOne program all command → RecordsChild old new all exit.NoMemory bytes → IsAnswer (listed_by command) exit.NoMemory bytes given → Logs (entries_of program old) (entries_of program new) command given
   short-told old new all command bytes answer.NoMemory starts records is = elim records [
@@ -188,7 +216,7 @@ module _ (program : List ℕ) where
     | inr kept ↦ inr (answer_of (listed_by command) kept.0 kept.1, call-read old new all command kept.0 kept.1 starts kept.2)
   ]
   short-told old new all command bytes (answer.Done r) starts records is = absurd is
-  short-told old new all command bytes answer.Failed starts records is = absurd (no-failure (listed_by command) is)
+  short-told old new all command bytes answer.Failed starts records is = absurd (no-failure (listed_by command) bytes is)
   short-told old new all command bytes (answer.Garbled n) starts records is = absurd is
 
   logs : (old new : Option (List Line)) (all : List (List ℕ)) (command : Cmd) (ended : RunExit) (bytes : List ℕ) (given : Answer) → StartsOne program all command → RecordsChild old new all ended bytes → IsAnswer (listed_by command) ended bytes given → Logs (entries_of program old) (entries_of program new) command given
@@ -210,6 +238,7 @@ named-words : (program : List ℕ) (command : Cmd) (words : List (List ℕ)) →
 named-words program cmd.Sets words same named = one-word program words cmd.Sets same named
 named-words program (cmd.Versions path) words same named = one-word program words (cmd.Versions path) same named
 named-words program (cmd.Holds path name) words same named = one-word program words (cmd.Holds path name) same named
+named-words program (cmd.Token token) words same named = one-word program words (cmd.Token token) same named
 named-words program (cmd.Snapshot path name) words same named = one-word program words (cmd.Snapshot path name) same named
 named-words program (cmd.Hold kind job path name) words same named = one-word program words (cmd.Hold kind job path name) same named
 named-words program (cmd.Release kind job path name) words same named = one-word program words (cmd.Release kind job path name) same named
@@ -234,7 +263,8 @@ run_logs program asked first old new all command ended bytes given own begun sta
     (subst (λ (c : Cmd). Logs (entries_of program old) (entries_of program new) c given) (sym (plain_named command starts.spelled.named))
     (logs program old new all command ended bytes given starts records is)))
 
-one-reply : (what : Listed) (bytes : List ℕ) (one other : Reply) → IsReply what bytes one → IsReply what bytes other → one ≡ other
+-- bytes give one reply at most
+pub one-reply : (what : Listed) (bytes : List ℕ) (one other : Reply) → IsReply what bytes one → IsReply what bytes other → one ≡ other
 one-reply what bytes one other p q =
     let a = reply-answered what bytes one p in
     let b = reply-answered what bytes other q in
@@ -243,7 +273,7 @@ one-reply what bytes one other p q =
 some-extent : (command : Cmd) (before after : Pools) (ended : RunExit) (bytes : List ℕ) (given : Answer) → Does command before after ended bytes → IsAnswer (listed_by command) ended bytes given → Answers command before after given
 some-extent command before after exit.Done bytes (answer.Done given) does is =
     subst (λ (r : Reply). Effect [] before command extent.Whole after (Ok r)) (one-reply (listed_by command) bytes does.0 given does.2 is) does.1
-some-extent command before after exit.Nonzero bytes (answer.Done given) does is = absurd is
+some-extent command before after exit.Nonzero bytes (answer.Done given) does is = does.replied given is
 some-extent command before after exit.Failed bytes (answer.Done given) does is = absurd is
 some-extent command before after exit.TooLong bytes (answer.Done given) does is = absurd is
 some-extent command before after exit.NoMemory bytes (answer.Done given) does is = absurd is

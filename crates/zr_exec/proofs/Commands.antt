@@ -9,7 +9,7 @@ use Rattle.zr_command.specs.declared.command.Base.TheVariants as base
 use Rattle.zr_command.specs.declared.command.Cmd.{Cmd}
 use Rattle.zr_command.specs.declared.command.Cmd.TheVariants as cmd
 use Rattle.zr_command.specs.declared.command.Transfer.{Transfer}
-use Rattle.zr_command.specs.Plain.{no_guid, plain, plain_base, plain_transfer}
+use Rattle.zr_command.specs.Plain.{plain, plain_from, plain_transfer}
 use Rattle.std.specs.Option.{option_and_then}
 use Rattle.zr_exec.specs.Commands.{command_by, command_in, command_of, transfer_behind, transfer_by, transfer_in, transfer_of, words_behind}
 use Rattle.zr_exec.specs.Serving.{SpellsPipe}
@@ -43,11 +43,13 @@ words_of-read words command is = choose (call_of words) refl is where
       subst (λ (c : Cmd). words ≡ words_of (call.One c)) same (sym (found-spelled words (call.One one) e))
   choose (Some (call.SendFull path name)) e is = cc
   choose (Some (call.SendFrom path mark name)) e is = cc
+  choose (Some (call.SendToken token)) e is = cc
   choose (Some (call.Receive path force)) e is = cc
 
-ends : (transfer : Transfer) (from : Base) → transfer_in (Some (send_from transfer from)) (Some (receive_of transfer)) ≡ Some (record transfer { guid = no_guid; base = plain_base from })
+ends : (transfer : Transfer) (from : Base) → transfer_in (Some (send_from transfer from)) (Some (receive_of transfer)) ≡ Some (plain_from transfer from)
 ends transfer base.Full = refl
 ends transfer (base.From mark guid) = refl
+ends transfer (base.Resume token from) = refl
 
 -- words that spell the ends of a transfer are read as it, without guids
 pub transfer_of-spelled : (send receive : List (List ℕ)) (transfer : Transfer) → SpellsPipe send receive transfer → transfer_of send receive ≡ Some (plain_transfer transfer)
@@ -70,6 +72,7 @@ pub plain_named : (command : Cmd) → IsNamed (call.One command) → plain comma
 plain_named cmd.Sets named = refl
 plain_named (cmd.Versions path) named = refl
 plain_named (cmd.Holds path name) named = refl
+plain_named (cmd.Token token) named = refl
 plain_named (cmd.Snapshot path name) named = refl
 plain_named (cmd.Hold kind job path name) named = refl
 plain_named (cmd.Release kind job path name) named = refl

@@ -83,6 +83,7 @@ named-ends : (program : List ℕ) (command : Cmd) (send receive : List (List ℕ
 named-ends program cmd.Sets send receive same named = cc
 named-ends program (cmd.Versions path) send receive same named = cc
 named-ends program (cmd.Holds path name) send receive same named = cc
+named-ends program (cmd.Token token) send receive same named = cc
 named-ends program (cmd.Snapshot path name) send receive same named = cc
 named-ends program (cmd.Hold kind job path name) send receive same named = cc
 named-ends program (cmd.Release kind job path name) send receive same named = cc

@@ -36,11 +36,13 @@ one-more : {Row : Type 0} (row_of : List ℕ → Option Row) (name : Row → Lis
 one-more row_of name before line [] row some read fresh = absurd (some refl)
 one-more row_of name before line (next ∷ later) row some read fresh = rw (read, fresh) refl
 
-not-empty : {X : Type 0} (xs : List X) (y : X) (ys : List X) → xs ++ y ∷ ys ≢ []
+-- what ends with an element is not empty
+pub not-empty : {X : Type 0} (xs : List X) (y : X) (ys : List X) → xs ++ y ∷ ys ≢ []
 not-empty [] y ys = λ e. cc
 not-empty (x ∷ xs) y ys = λ e. cc
 
-pushed : {X : Type 0} (xs : List X) (x : X) (ys : List X) → (xs ++ x ∷ []) ++ ys ≡ xs ++ x ∷ ys
+-- one element moves from the front of a list to the end of another
+pub pushed : {X : Type 0} (xs : List X) (x : X) (ys : List X) → (xs ++ x ∷ []) ++ ys ≡ xs ++ x ∷ ys
 pushed xs x ys = append_assoc xs (x ∷ []) ys
 
 whole-from : {Row : Type 0} (spells : List ℕ → Row → Type 0) (row_of : List ℕ → Option Row) (name : Row → List ℕ) (reads : ReadsLines spells row_of) (lines : List (List ℕ)) (before rows : List Row) → AllZip spells lines rows → NamesDiffer name (before ++ rows) → rows_in row_of name before (lines ++ [] ∷ []) ≡ Ok (before ++ rows)

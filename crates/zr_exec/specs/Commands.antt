@@ -7,7 +7,7 @@ use Rattle.zr_command.specs.declared.command.Base.TheVariants as base
 use Rattle.zr_command.specs.declared.command.Cmd.{Cmd}
 use Rattle.zr_command.specs.declared.command.Transfer.{Transfer}
 use Rattle.zr_command.specs.Names.{same_text}
-use Rattle.zr_command.specs.Plain.{no_guid}
+use Rattle.zr_command.specs.Plain.{no_guid, no_name}
 
 -- the command that is one call
 abbrev pub command_in : Option ZfsCall → Option Cmd
@@ -18,7 +18,8 @@ command_in given = None
 abbrev pub command_of : List (List ℕ) → Option Cmd
 command_of words = command_in (call_of words)
 
--- the transfer whose sending and receiving ends these calls are; they name no guids
+-- the transfer whose sending and receiving ends these calls are; they name no guids, and those of a resume neither the
+-- source nor the snapshot
 abbrev pub transfer_in : Option ZfsCall → Option ZfsCall → Option Transfer
 transfer_in (Some (call.SendFull source to)) (Some (call.Receive target force)) =
     Some (record { source = source; to = to; guid = no_guid; base = base.Full; target = target; force = force })
@@ -28,6 +29,15 @@ transfer_in (Some (call.SendFrom source mark to)) (Some (call.Receive target for
       to = to;
       guid = no_guid;
       base = base.From mark no_guid;
+      target = target;
+      force = force;
+    })
+transfer_in (Some (call.SendToken token)) (Some (call.Receive target force)) =
+    Some (record {
+      source = no_name;
+      to = no_name;
+      guid = no_guid;
+      base = base.Resume token None;
       target = target;
       force = force;
     })

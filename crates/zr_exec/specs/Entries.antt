@@ -11,6 +11,7 @@ use Rattle.zr_exec.specs.Commands.{command_by, transfer_by}
 use Rattle.zr_exec.specs.Listed.{Listed, listed_by}
 use Rattle.zr_exec.specs.Listed as listed
 use Rattle.zr_exec.specs.Rows.{in_order, rows_in}
+use Rattle.zr_exec.specs.TokenContents.{info_in}
 use Rattle.zr_listing.specs.Columns.{full_name}
 use Rattle.zr_listing.specs.Lines.{lines_of}
 use Rattle.zr_command.specs.declared.command.Answer.{Answer}
@@ -22,6 +23,7 @@ use Rattle.zr_command.specs.declared.command.Entry.TheVariants as entry
 use Rattle.zr_command.specs.declared.command.Reply.{Reply}
 use Rattle.zr_command.specs.declared.command.Reply.TheVariants as reply
 use Rattle.zr_command.specs.declared.command.Transfer.{Transfer}
+use Rattle.zr_command.specs.declared.version.TokenInfo.{TokenInfo}
 use Rattle.zr_command.specs.declared.version.VersionRow.{VersionRow}
 
 -- the answer by the rows of a listing, or by its first bad line
@@ -32,6 +34,16 @@ rows_answer listing (Err line) = answer.Garbled line
 abbrev pub versions_reply : List VersionRow → Reply
 versions_reply rows = reply.Versions (in_order rows)
 
+-- the answer by the contents of a token, or by their first bad line
+abbrev pub token_answer : Result TokenInfo ℕ → Answer
+token_answer (Ok info) = answer.Done (reply.Token info)
+token_answer (Err line) = answer.Garbled line
+
+-- and where the child ended with another status
+abbrev pub token_answer_anyhow : Result TokenInfo ℕ → Answer
+token_answer_anyhow (Ok info) = answer.Done (reply.Token info)
+token_answer_anyhow (Err line) = answer.Failed
+
 -- what the bytes of a child that ended well answer
 abbrev pub answer_in : Listed → List ℕ → Answer
 answer_in listed.sets bytes = rows_answer reply.Sets (rows_in set_row_of (λ row. row.path) [] (lines_of bytes))
@@ -40,7 +52,13 @@ answer_in (listed.versions path) bytes =
     (rows_in (version_row_of path) (λ row. full_name path row.name) [] (lines_of bytes))
 answer_in (listed.holds path name) bytes =
     rows_answer reply.Holds (rows_in (hold_of path name) (λ tag. tag) [] (lines_of bytes))
+answer_in listed.token bytes = token_answer (info_in [] (lines_of bytes))
 answer_in listed.nothing bytes = answer.Done reply.Nothing
+
+-- what the bytes of a child that ended by itself with another status answer
+abbrev pub answer_anyhow : Listed → List ℕ → Answer
+answer_anyhow listed.token bytes = token_answer_anyhow (info_in [] (lines_of bytes))
+answer_anyhow what bytes = answer.Failed
 
 -- what the bytes of a child that wrote too much answer
 abbrev pub cut_answer : Listed → List ℕ → Answer
@@ -50,6 +68,7 @@ cut_answer what bytes = answer.Garbled (newlines bytes + 1)
 -- the answer to a command by its child's end and bytes
 abbrev pub answer_of : Listed → RunExit → List ℕ → Answer
 answer_of what exit.Done bytes = answer_in what bytes
+answer_of what exit.Nonzero bytes = answer_anyhow what bytes
 answer_of what exit.TooLong bytes = cut_answer what bytes
 answer_of what exit.NoMemory bytes = answer.NoMemory
 answer_of what ended bytes = answer.Failed

@@ -8,3 +8,4 @@ pub mod Recording
 pub mod Rows
 pub mod Running
 pub mod Serving
+pub mod TokenContents

@@ -1,17 +1,18 @@
 //! The runner of commands by children: words out, listings and ends in. Apart from `spawn`, which
 //! knows no ZFS.
 
-ghost use Rattle.std.specs.Prelude.{◌≡◌, ◌≤◌, ◌+◌, ◌<◌, ◌^◌, length};
+ghost use Rattle.std.specs.Prelude.{◌≡◌, ◌≤◌, ◌+◌, ◌<◌, ℕ, List, length};
 ghost use Rattle.zr_exec.specs.Answering.{IsAnswer, newlines, pipe_answer, refusal_of};
-ghost use Rattle.zr_exec.specs.Listed.{listed_by};
+ghost use Rattle.zr_exec.specs.Listed.{listed_by, token};
 ghost use Rattle.zr_world.specs.Answering.{IsReplyTo};
+ghost use Rattle.zr_command.specs.declared.command.Cmd.TheVariants as command;
 
 use crate::spawn::{LISTING_LIMIT, PipeExit, RunExit, Spawn};
 use std::alloc::Global;
 use std::marker::Model;
 use zr_cmd::{Argv, argv_of};
 use zr_command::{Answer, Cmd, Reply};
-use zr_listing::{ListFault, read_holds, read_sets, read_versions};
+use zr_listing::{ListFault, read_holds, read_sets, read_token, read_versions};
 use zr_names::{NoMemory, Path, Rows, Unit};
 use zr_world::Zfs;
 
@@ -96,6 +97,10 @@ fn read_reply(alloc: Global, cmd: &Cmd, out: &[u8]) -> Answer
             Ok(tags) => Answer::Done(Reply::Holds(tags)),
             Err(fault) => refused(fault),
         },
+        Cmd::Token(_) => match read_token(out) {
+            Ok(info) => Answer::Done(Reply::Token(info)),
+            Err(fault) => refused(fault),
+        },
         Cmd::Snapshot(_, _)
         | Cmd::Hold(_, _, _, _)
         | Cmd::Release(_, _, _, _)
@@ -108,6 +113,18 @@ fn read_reply(alloc: Global, cmd: &Cmd, out: &[u8]) -> Answer
     }
 }
 
+/// Reads what a token says where its child ended with another status, as it does where the source is gone.
+fn read_anyhow(out: &[u8]) -> Answer
+    ensures answer { IsAnswer token RunExit.Nonzero out.now result }
+    ensures shape { (text : List ℕ) → IsReplyTo (command.Token text) result }
+{
+    match read_token(out) {
+        Ok(info) => Answer::Done(Reply::Token(info)),
+        Err(ListFault::Garbled(_)) => Answer::Failed,
+        Err(ListFault::NoMemory) => Answer::NoMemory,
+    }
+}
+
 /// The answer to a command by its child's end and what it wrote.
 fn answer(alloc: Global, cmd: &Cmd, exit: RunExit, out: &[u8]) -> Answer
     requires { length out.now ≤ LISTING_LIMIT }
@@ -116,7 +133,10 @@ fn answer(alloc: Global, cmd: &Cmd, exit: RunExit, out: &[u8]) -> Answer
 {
     match (exit, cmd) {
         (RunExit::Done, _) => read_reply(alloc, cmd, out),
-        (RunExit::TooLong, Cmd::Sets | Cmd::Versions(_) | Cmd::Holds(_, _)) => cut(out),
+        (RunExit::Nonzero, Cmd::Token(_)) => read_anyhow(out),
+        (RunExit::TooLong, Cmd::Sets | Cmd::Versions(_) | Cmd::Holds(_, _) | Cmd::Token(_)) => {
+            cut(out)
+        }
         (RunExit::TooLong | RunExit::Nonzero | RunExit::Failed, _) => Answer::Failed,
         (RunExit::NoMemory, _) => Answer::NoMemory,
     }

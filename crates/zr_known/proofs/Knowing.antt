@@ -29,6 +29,7 @@ pub failed-tells : (pair : Pair) (command : Cmd) (known : Known) → told_by pai
 failed-tells pair cmd.Sets known = refl
 failed-tells pair (cmd.Versions path) known = refl
 failed-tells pair (cmd.Holds path name) known = refl
+failed-tells pair (cmd.Token token) known = refl
 failed-tells pair (cmd.Snapshot path name) known = refl
 failed-tells pair (cmd.Hold kind job path name) known = refl
 failed-tells pair (cmd.Release kind job path name) known = refl
@@ -43,6 +44,7 @@ pub garbled-tells : (pair : Pair) (command : Cmd) (line : ℕ) (known : Known) �
 garbled-tells pair cmd.Sets line known = refl
 garbled-tells pair (cmd.Versions path) line known = refl
 garbled-tells pair (cmd.Holds path name) line known = refl
+garbled-tells pair (cmd.Token token) line known = refl
 garbled-tells pair (cmd.Snapshot path name) line known = refl
 garbled-tells pair (cmd.Hold kind job path name) line known = refl
 garbled-tells pair (cmd.Release kind job path name) line known = refl
@@ -57,6 +59,7 @@ pub no-memory-tells : (pair : Pair) (command : Cmd) (known : Known) → told_by 
 no-memory-tells pair cmd.Sets known = refl
 no-memory-tells pair (cmd.Versions path) known = refl
 no-memory-tells pair (cmd.Holds path name) known = refl
+no-memory-tells pair (cmd.Token token) known = refl
 no-memory-tells pair (cmd.Snapshot path name) known = refl
 no-memory-tells pair (cmd.Hold kind job path name) known = refl
 no-memory-tells pair (cmd.Release kind job path name) known = refl
@@ -72,6 +75,7 @@ destroy-tells pair path names (answer.Done reply.Nothing) known = refl
 destroy-tells pair path names (answer.Done (reply.Sets rows)) known = refl
 destroy-tells pair path names (answer.Done (reply.Versions rows)) known = refl
 destroy-tells pair path names (answer.Done (reply.Holds tags)) known = refl
+destroy-tells pair path names (answer.Done (reply.Token info)) known = refl
 destroy-tells pair path names answer.Failed known = refl
 destroy-tells pair path names (answer.Garbled line) known = refl
 destroy-tells pair path names answer.NoMemory known = refl

@@ -205,6 +205,7 @@ MayGive pair known (cmd.Bookmark path version name) = (path ≡ pair.source) × 
 MayGive pair known (cmd.DestroyMark path name) = (path ≡ pair.source) × MayDestroyMark pair known name
 MayGive pair known (cmd.Transfer transfer) = MayTransfer pair known transfer
 MayGive pair known (cmd.DestroySnaps path names) = ⊥
+MayGive pair known (cmd.Token token) = ⊥
 MayGive pair known (cmd.Snapshot path name) = ⊥
 MayGive pair known (cmd.Create path) = ⊥
 MayGive pair known (cmd.Abort path) = ⊥

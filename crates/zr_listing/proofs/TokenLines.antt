@@ -16,7 +16,7 @@ IsHexGuid-one text a b p q =
     ap guid number
 
 -- a line has one key at most
-keys-differ : (text v w : List ℕ) → HasKey to_key text v → HasKey from_key text w → ⊥
+pub keys-differ : (text v w : List ℕ) → HasKey to_key text v → HasKey from_key text w → ⊥
 keys-differ text v w to from =
     let first : 116 ≡ 102 = ap (λ l. get_or l 0 0) (sym to ∙ from) in
     omega (arith, first)

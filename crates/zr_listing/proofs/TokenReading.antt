@@ -56,7 +56,8 @@ more bytes rest after number seen seen' r t = record {
   room = omega (arith, r.room, t.shorter);
 }
 
-one-most : (o : Option Guid) → length (guids_of o) ≤ 1
+-- at most one guid
+pub one-most : (o : Option Guid) → length (guids_of o) ≤ 1
 one-most None = omega arith
 one-most (Some guid) = omega arith
 
@@ -137,7 +138,8 @@ token-one bytes a b p q =
     let info : Guid → Option Guid → TokenInfo = λ t f. record { to = t; from = f } in
     ap (λ t. info t a.from) to ∙ ap (info b.to) from
 
-front-few : (f : TokenLine → List Guid) (rows more : List TokenLine) (row : TokenLine) → length (flat_map f (rows ++ row ∷ more)) ≤ 1 → length (flat_map f (rows ++ row ∷ [])) ≤ 1
+-- what lines give at most once, their first ones do
+pub front-few : (f : TokenLine → List Guid) (rows more : List TokenLine) (row : TokenLine) → length (flat_map f (rows ++ row ∷ more)) ≤ 1 → length (flat_map f (rows ++ row ∷ [])) ≤ 1
 front-few f rows more row few =
     let longer : flat_map f (rows ++ row ∷ more) ≡ flat_map f (rows ++ row ∷ []) ++ flat_map f more =
     ap (flat_map f) (sym (append_assoc rows (row ∷ []) more)) ∙ flat_map-append f (rows ++ row ∷ []) more in

@@ -6,7 +6,7 @@ pub use faults::ListFault;
 pub use holds::read_holds;
 pub use print::{print_holds, print_sets, print_versions};
 pub use sets::read_sets;
-pub use token::{print_token, read_token};
+pub use token::{TokenLine, print_token, read_token};
 pub use versions::read_versions;
 
 mod columns;

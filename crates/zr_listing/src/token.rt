@@ -20,7 +20,7 @@ use zr_names::{Guid, NoMemory};
 
 /// What a line of the contents says.
 #[derive(Clone, Copy)]
-pub(crate) enum TokenLine {
+pub enum TokenLine {
     /// The guid of the snapshot that is sent.
     To(Guid),
     /// The guid of what the stream goes on from.

@@ -16,6 +16,7 @@ use Rattle.zr_model.specs.Piping.{FindsOne, is_unspelled}
 abbrev is_end : ZfsCall → Bool
 is_end (call.SendFull path name) = true
 is_end (call.SendFrom path mark name) = true
+is_end (call.SendToken token) = true
 is_end other = false
 
 -- words that spell one end of a transfer spell no command
@@ -34,6 +35,7 @@ unread words fault.NoMemory given is reads spelled = cc
 sends-none : (sent : ZfsCall) (transfer : Transfer) (from : Base) → is_end sent ≡ false → sent ≡ send_from transfer from → ⊥
 sends-none sent transfer base.Full none same = cc
 sends-none sent transfer (base.From mark guid) none same = cc
+sends-none sent transfer (base.Resume token from) none same = cc
 
 -- no command is the sending end of a transfer
 pub one_sends_none : (command : Cmd) (transfer : Transfer) → call.One command ≡ send_of transfer → ⊥
@@ -49,4 +51,5 @@ found_command words None none = λ other spelled. none (call.One other) spelled
 found_command words (Some (call.One command)) spelled = spelled
 found_command words (Some (call.SendFull path name)) spelled = λ other one. absurd (one-alone words (call.SendFull path name) other refl spelled one)
 found_command words (Some (call.SendFrom path mark name)) spelled = λ other one. absurd (one-alone words (call.SendFrom path mark name) other refl spelled one)
+found_command words (Some (call.SendToken token)) spelled = λ other one. absurd (one-alone words (call.SendToken token) other refl spelled one)
 found_command words (Some (call.Receive path force)) spelled = λ other one. absurd (one-alone words (call.Receive path force) other refl spelled one)

@@ -33,11 +33,13 @@ replied-free : (pools : Pools) (command : Cmd) (given : Reply) → IsWellFormed 
 replied-free pools cmd.Sets (reply.Sets rows) formed replies = tt
 replied-free pools cmd.Sets reply.Nothing formed replies = absurd replies
 replied-free pools cmd.Sets (reply.Versions rows) formed replies = absurd replies
+replied-free pools cmd.Sets (reply.Token info) formed replies = absurd replies
 replied-free pools cmd.Sets (reply.Holds tags) formed replies = absurd replies
 replied-free pools (cmd.Versions path) given formed replies =
     subst AreFree (sym replies)
     (versions-free pools (dataset_at pools path) (λ set found. found_from_All (IsWellFormedSet pools.next_txg) (is_at path) pools.sets set found formed.each))
 replied-free pools (cmd.Holds path name) given formed replies = subst AreFree (sym replies) tt
+replied-free pools (cmd.Token token) given formed replies = subst AreFree (sym replies) tt
 replied-free pools (cmd.Snapshot path name) given formed replies = subst AreFree (sym replies) tt
 replied-free pools (cmd.Hold kind job path name) given formed replies = subst AreFree (sym replies) tt
 replied-free pools (cmd.Release kind job path name) given formed replies = subst AreFree (sym replies) tt

@@ -6,13 +6,13 @@ use Rattle.zr_cmd.specs.declared.forms.ZfsCall.{ZfsCall}
 use Rattle.zr_command.specs.declared.command.Cmd.TheVariants as cmd
 use Rattle.zr_command.specs.declared.command.Transfer.{Transfer}
 use Rattle.zr_world.specs.declared.pools.Pools.{Pools}
-use Rattle.zr_world.specs.Reasons.{first_that_applies, source_reasons}
+use Rattle.zr_world.specs.Answering.{StandsOn}
 
--- the calls are the two ends of the transfer, and its guids are those that stand on the source
+-- the calls are the two ends of the transfer, and what they do not name is as it stands on these pools
 pub record AreEnds (pools : Pools) (send receive : ZfsCall) (transfer : Transfer) : Type 0 where
   pub sends : send ≡ send_of transfer
   pub receives : receive ≡ receive_of transfer
-  pub stands : first_that_applies (source_reasons pools (cmd.Transfer transfer)) ≡ None
+  pub stands : StandsOn pools transfer
 
 -- words that are refused for this are those of no call
 abbrev pub is_unspelled : ArgvFault → Bool

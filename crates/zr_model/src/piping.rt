@@ -1,26 +1,25 @@
 //! Serves the words of a pipe: the one transfer that they give on these pools. Apart from
 //! `serving`, which reads one child's words.
 
-ghost use Rattle.std.specs.Prelude.{◌≡◌, ◌≢◌, None, true, false, IfOk, MatchOption, is_some, map, string_bytes};
+ghost use Rattle.std.specs.Prelude.{◌≡◌, None, true, false, IfOk, MatchOption, map, option_map, string_bytes};
 ghost use Rattle.zr_cmd.specs.declared.forms.ZfsCall.TheVariants as call;
 ghost use Rattle.zr_exec.specs.Exits.{HasPipeCause, is_pipe_fault};
 ghost use Rattle.zr_model.specs.Piping.{AreEnds, FindsOne};
 ghost use Rattle.zr_exec.specs.Serving.{DoesPipe, DoesTransfer, PipeGives};
 ghost use Rattle.zr_model.specs.Ends.{PipeEnds, PipeEndsAt};
-ghost use Rattle.zr_world.specs.Lookup.{stands};
+ghost use Rattle.zr_world.specs.Lookup.{first_of_guid, stands};
 ghost use Rattle.zr_world.specs.Planned.{risen_if};
 ghost use Rattle.zr_world.specs.Pools.{IsWellFormed};
-ghost use Rattle.zr_world.specs.Reasons.{refusal};
 ghost use Rattle.zr_command.specs.declared.command.Cmd.TheVariants as cmd;
 ghost use Rattle.zr_command.specs.declared.version.VersionName.TheVariants.{Mark, Snap};
 
 use crate::serving::read_call;
 use std::alloc::Global;
 use zr_cmd::ZfsCall;
-use zr_command::{Answer, Base, Cmd, Transfer};
+use zr_command::{Answer, Base, Cmd, Transfer, VersionName};
 use zr_exec::PipeExit;
-use zr_names::{Guid, MarkName, NoMemory, Path, SnapName};
-use zr_world::{Extent, Pools, act};
+use zr_names::{Guid, MarkName, NoMemory, Path, Same, SnapName, TokenText};
+use zr_world::{Extent, Pools, act, partial_of_token};
 
 /// Counts a pipe that failed.
 fn failed(faults: &mut u64) -> PipeExit
@@ -96,39 +95,95 @@ fn increment(
     })
 }
 
+/// The name of the first snapshot of this guid.
+fn first_name(pools: &Pools, path: &Path, guid: Guid) -> Result<Option<SnapName>, NoMemory>
+    ensures { IfOk result (λ name. option_map Snap name ≡
+        option_map (λ version. version.name) (first_of_guid pools.entry.now path.now guid)) }
+{
+    let Some(version) = pools.first_of_guid(path, guid) else {
+        return Ok(None);
+    };
+    match &version.name {
+        VersionName::Snap(name) => Ok(Some(name.same()?)),
+        VersionName::Mark(_) => Ok(None),
+    }
+}
+
+/// The resume by a token, if its source still has the snapshot: the first of the token's guid.
+#[tactic(auto, using(crate::proofs::Resumed::unread, crate::proofs::Resumed::unsent))]
+fn resume(
+    alloc: Global,
+    pools: &Pools,
+    token: TokenText,
+    target: Path,
+    force: bool,
+) -> Result<Option<Transfer>, NoMemory>
+    ensures { IfOk result (FindsOne (AreEnds pools.entry.now (call.SendToken token)
+        (call.Receive target force))) }
+{
+    let Some(partial) = partial_of_token(alloc, &token)? else {
+        return Ok(None);
+    };
+    let Some(to) = first_name(pools, &partial.source, partial.to)? else {
+        return Ok(None);
+    };
+    Ok(Some(Transfer {
+        source: partial.source,
+        to,
+        guid: partial.to,
+        base: Base::Resume(token, partial.from),
+        target,
+        force,
+    }))
+}
+
 /// The transfer onto a target that a call sends. It names no guids, so these are looked up on the source.
 #[tactic(auto, using(crate::proofs::Calls::one_sends_none, crate::proofs::Calls::receive_sends_none))]
-fn transfer_onto(pools: &Pools, send: ZfsCall, target: Path, force: bool) -> Option<Transfer>
-    ensures { FindsOne (AreEnds pools.entry.now send (call.Receive target force)) result }
+fn transfer_onto(
+    alloc: Global,
+    pools: &Pools,
+    send: ZfsCall,
+    target: Path,
+    force: bool,
+) -> Result<Option<Transfer>, NoMemory>
+    ensures { IfOk result (FindsOne (AreEnds pools.entry.now send (call.Receive target force))) }
 {
     match send {
-        ZfsCall::SendFull(source, to) => full_transfer(pools, source, to, target, force),
-        ZfsCall::SendFrom(source, mark, to) => increment(pools, source, mark, to, target, force),
+        ZfsCall::SendFull(source, to) => Ok(full_transfer(pools, source, to, target, force)),
+        ZfsCall::SendFrom(source, mark, to) => {
+            Ok(increment(pools, source, mark, to, target, force))
+        }
+        ZfsCall::SendToken(token) => resume(alloc, pools, token, target, force),
         // Let go by hand: at the end of the arm each variant would be proved again.
         ZfsCall::One(cmd) => {
             drop(cmd);
             drop(target);
-            None
+            Ok(None)
         }
         ZfsCall::Receive(path, _) => {
             drop(path);
             drop(target);
-            None
+            Ok(None)
         }
     }
 }
 
 /// The transfer whose ends two calls are.
-fn transfer_of(pools: &Pools, send: ZfsCall, receive: ZfsCall) -> Option<Transfer>
-    ensures { FindsOne (AreEnds pools.entry.now send receive) result }
+fn transfer_of(
+    alloc: Global,
+    pools: &Pools,
+    send: ZfsCall,
+    receive: ZfsCall,
+) -> Result<Option<Transfer>, NoMemory>
+    ensures { IfOk result (FindsOne (AreEnds pools.entry.now send receive)) }
 {
     match receive {
-        ZfsCall::Receive(target, force) => transfer_onto(pools, send, target, force),
+        ZfsCall::Receive(target, force) => transfer_onto(alloc, pools, send, target, force),
         // Let go by hand: at the end of the arm each variant would be proved again.
         other => {
             drop(other);
             drop(send);
-            None
+            Ok(None)
         }
     }
 }
@@ -149,7 +204,7 @@ fn read_transfer(
         return Ok(None);
     };
     match read_call(alloc, receive) {
-        Ok(Some(receive)) => Ok(transfer_of(pools, send, receive)),
+        Ok(Some(receive)) => transfer_of(alloc, pools, send, receive),
         // Let go by hand: at the end of the arm each variant would be proved again.
         Ok(None) => {
             drop(send);

@@ -1,13 +1,13 @@
 //! Serves the words of one child: the command that they spell, and what it prints.
 
-ghost use Rattle.std.specs.Prelude.{◌≡◌, ◌≢◌, ◌≤◌, [], IfOk, OnOk, None, drop, is_some, length, map, string_bytes, true};
+ghost use Rattle.std.specs.Prelude.{◌≡◌, ◌≢◌, ◌≤◌, [], IfOk, None, drop, length, map, string_bytes, true};
 ghost use Rattle.zr_exec.specs.Commands.{command_in};
 ghost use Rattle.zr_exec.specs.Exits.{HasExitCause, is_child_fault};
 ghost use Rattle.zr_exec.specs.Listed.{listed_by};
 ghost use Rattle.zr_cmd.specs.Words.{Spells};
 ghost use Rattle.zr_cmd.specs.declared.forms.ZfsCall.TheVariants.{One};
 ghost use Rattle.zr_model.specs.Piping.{FindsOne, is_unspelled};
-ghost use Rattle.zr_model.specs.Ends.{AreFree, EndsAt, EndsWords};
+ghost use Rattle.zr_model.specs.Ends.{AreFree, EndsAt, EndsWords, is_sendable, Wrote};
 ghost use Rattle.zr_exec.specs.Serving.{Does, DoesWords, IsReply};
 ghost use Rattle.zr_world.specs.Answering.{IsReplyTo};
 ghost use Rattle.zr_world.specs.Planned.{risen_if};
@@ -18,9 +18,9 @@ use std::alloc::Global;
 use zr_cmd::{ArgvFault, ZfsCall, read_argv};
 use zr_command::{Answer, Cmd, Reply};
 use zr_exec::{LISTING_LIMIT, RunExit};
-use zr_listing::{print_holds, print_sets, print_versions};
+use zr_listing::{print_holds, print_sets, print_token, print_versions};
 use zr_names::NoMemory;
-use zr_world::{Extent, Pools, act};
+use zr_world::{Extent, Pools, act, partial_of_token};
 
 /// The words behind the program's name.
 pub fn behind_program(argv: &[String]) -> &[String]
@@ -50,6 +50,7 @@ fn print(alloc: Global, cmd: &Cmd, reply: &Reply) -> Result<Vec<u8>, NoMemory>
 {
     match (cmd, reply) {
         (_, Reply::Nothing) => Ok(Vec::new(alloc)),
+        (_, Reply::Token(info)) => print_token(alloc, info),
         (_, Reply::Sets(rows)) => print_sets(alloc, rows.as_slice()),
         (Cmd::Versions(path), Reply::Versions(rows)) => {
             print_versions(alloc, path, rows.as_slice())
@@ -125,8 +126,36 @@ fn read_command(alloc: Global, words: &[String]) -> Result<Option<Cmd>, NoMemory
     Ok(command_in(read_call(alloc, words)?))
 }
 
+/// Whether the source of a token still has its snapshot; every other command has no such source.
+fn is_sendable(alloc: Global, pools: &Pools, cmd: &Cmd) -> Result<bool, NoMemory>
+    ensures { IfOk result (λ sendable. sendable ≡ is_sendable pools.entry.now cmd.now) }
+{
+    let Cmd::Token(token) = cmd else {
+        return Ok(true);
+    };
+    match partial_of_token(alloc, token)? {
+        Some(partial) => Ok(pools.first_of_guid(&partial.source, partial.to).is_some()),
+        None => Ok(false),
+    }
+}
+
+/// Writes what a command replied; what a token says is written with another status where its source is gone.
+fn write_reply(text: &[u8], sendable: bool, out: &mut Vec<u8>, faults: &mut u64) -> RunExit
+    requires { out.old.items ≡ [] }
+    ensures cause { HasExitCause faults.old faults.new result }
+    ensures within { length out.new.items ≤ LISTING_LIMIT }
+    ensures full { result ≡ RunExit.TooLong → length out.new.items ≡ LISTING_LIMIT }
+    ensures wrote { Wrote sendable text.now out.new.items result }
+    ensures counted { faults.new ≡ risen_if (is_child_fault result) faults.old }
+{
+    match write_out(text, out, faults) {
+        RunExit::Done if !sendable => counted(faults, RunExit::Nonzero),
+        exit => exit,
+    }
+}
+
 /// Serves a command on these pools, or fails it at a planned extent.
-#[tactic(auto, using(crate::proofs::Free::free_replies))]
+#[tactic(auto, using(crate::proofs::Free::free_replies, crate::proofs::Served::reply_does, crate::proofs::Served::reply_ends, crate::proofs::Served::failure_does))]
 fn serve_command(
     alloc: Global,
     pools: &mut Pools,
@@ -145,14 +174,15 @@ fn serve_command(
     ensures ends { EndsAt plan cmd.now pools.old pools.new result out.new.items }
     ensures counted { faults.new ≡ risen_if (is_child_fault result) faults.old }
 {
+    let sendable = is_sendable(alloc, pools, cmd);
     match act(alloc, pools, faults, cmd, plan) {
         Answer::Done(reply) => {
             let text = print(alloc, cmd, &reply);
             // Let go here: at each exit below it would be proved again.
             drop(reply);
-            match text {
-                Ok(text) => write_out(text.as_slice(), out, faults),
-                Err(NoMemory) => RunExit::NoMemory,
+            match (text, sendable) {
+                (Ok(text), Ok(sendable)) => write_reply(text.as_slice(), sendable, out, faults),
+                _ => RunExit::NoMemory,
             }
         }
         Answer::Failed if plan.is_none() => RunExit::Nonzero,

@@ -26,6 +26,7 @@ plain-itself : (c : Cmd) → is_transfer c ≡ false → plain c ≡ c
 plain-itself cmd.Sets e = refl
 plain-itself (cmd.Versions path) e = refl
 plain-itself (cmd.Holds path name) e = refl
+plain-itself (cmd.Token token) e = refl
 plain-itself (cmd.Snapshot path name) e = refl
 plain-itself (cmd.Hold kind job path name) e = refl
 plain-itself (cmd.Release kind job path name) e = refl
@@ -40,6 +41,7 @@ plain-kind : (c : Cmd) → is_transfer (plain c) ≡ is_transfer c
 plain-kind cmd.Sets = refl
 plain-kind (cmd.Versions path) = refl
 plain-kind (cmd.Holds path name) = refl
+plain-kind (cmd.Token token) = refl
 plain-kind (cmd.Snapshot path name) = refl
 plain-kind (cmd.Hold kind job path name) = refl
 plain-kind (cmd.Release kind job path name) = refl
@@ -54,6 +56,7 @@ transfer-is : (c : Cmd) → is_transfer c ≡ true → (transfer : Transfer) × 
 transfer-is cmd.Sets e = cc
 transfer-is (cmd.Versions path) e = cc
 transfer-is (cmd.Holds path name) e = cc
+transfer-is (cmd.Token token) e = cc
 transfer-is (cmd.Snapshot path name) e = cc
 transfer-is (cmd.Hold kind job path name) e = cc
 transfer-is (cmd.Release kind job path name) e = cc

@@ -47,6 +47,7 @@ plain-versions : (given : Cmd) (path : List ℕ) → plain given ≡ cmd.Version
 plain-versions cmd.Sets path e = cc
 plain-versions (cmd.Versions p) path e = e
 plain-versions (cmd.Holds p name) path e = cc
+plain-versions (cmd.Token token) path e = cc
 plain-versions (cmd.Snapshot p name) path e = cc
 plain-versions (cmd.Hold kind job p name) path e = cc
 plain-versions (cmd.Release kind job p name) path e = cc
@@ -61,6 +62,7 @@ plain-destroy : (given : Cmd) (path name : List ℕ) → plain given ≡ destroy
 plain-destroy cmd.Sets path name e = cc
 plain-destroy (cmd.Versions p) path name e = cc
 plain-destroy (cmd.Holds p n) path name e = cc
+plain-destroy (cmd.Token token) path name e = cc
 plain-destroy (cmd.Snapshot p n) path name e = cc
 plain-destroy (cmd.Hold kind job p n) path name e = cc
 plain-destroy (cmd.Release kind job p n) path name e = cc

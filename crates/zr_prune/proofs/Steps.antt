@@ -241,6 +241,7 @@ pruning-begun jobs unit path names turns is turned names_are =
       by-reply (reply.Versions rows) fits turns_are = begun jobs unit path names rows turns is fits turns_are names_are
       by-reply (reply.Sets rows) fits turns_are = absurd fits
       by-reply (reply.Holds tags) fits turns_are = absurd fits
+      by-reply (reply.Token info) fits turns_are = absurd fits
       by-reply reply.Nothing fits turns_are = absurd fits
 
       by-answer : (a : Answer) → told.Done ≡ told_of a → IsReplyTo (cmd.Versions path) a → turns ≡ (cmd.Versions path, a) ∷ [] → Pruning jobs unit path names [] turns

@@ -55,6 +55,7 @@ listed-sets pair knew known given fresh shape is =
         })
     by (reply.Versions rows) shape is = elim shape [ ]
     by (reply.Holds tags) shape is = elim shape [ ]
+    by (reply.Token info) shape is = elim shape [ ]
     by reply.Nothing shape is = elim shape [ ]
 
 not-absent : (row : SetRow) (presence : Option SetRow) → presence ≡ Some row → presence_by presence ≡ Absent → ⊥
@@ -92,6 +93,7 @@ listed-target pair knew known sets shows apart told = by told.given told.shape t
       })
   by (reply.Sets rows) shape is = elim shape [ ]
   by (reply.Holds tags) shape is = elim shape [ ]
+  by (reply.Token info) shape is = elim shape [ ]
   by reply.Nothing shape is = elim shape [ ]
 
 -- a target that was listed was listed
@@ -102,6 +104,7 @@ target-told pair knew known apart told = by told.given told.shape told.known_is 
       subst (HasListedTarget pair) (sym (is ∙ target-listed pair rows knew apart)) (λ shows. refl)
   by (reply.Sets rows) shape is = elim shape [ ]
   by (reply.Holds tags) shape is = elim shape [ ]
+  by (reply.Token info) shape is = elim shape [ ]
   by reply.Nothing shape is = elim shape [ ]
 
 -- names that were asked for stay so
@@ -155,6 +158,7 @@ has-asked side pair name knew known apart told = by told.given told.shape told.k
       }
   by (reply.Sets rows) shape is = elim shape [ ]
   by (reply.Versions rows) shape is = elim shape [ ]
+  by (reply.Token info) shape is = elim shape [ ]
   by reply.Nothing shape is = elim shape [ ]
 
 same-listing : (side : Role) (before now : Known) → OnlyHolds side before now → listing_at side now ≡ listing_at side before

@@ -43,6 +43,7 @@ table-replies : (since : List Pools) (pools : Pools) (command : Cmd) → IsWellF
 table-replies since pools cmd.Sets formed = shows-now since pools formed
 table-replies since pools (cmd.Versions path) formed = refl
 table-replies since pools (cmd.Holds path name) formed = refl
+table-replies since pools (cmd.Token token) formed = refl
 table-replies since pools (cmd.Snapshot path name) formed = refl
 table-replies since pools (cmd.Hold kind job path name) formed = refl
 table-replies since pools (cmd.Release kind job path name) formed = refl

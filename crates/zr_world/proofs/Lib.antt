@@ -1,8 +1,11 @@
 pub mod Applied
 pub mod Changing
+pub mod Firsts
 pub mod Keeping
 pub mod Moments
 pub mod Order
 pub mod Sound
 pub mod Tokens
 pub mod WellFormed
+pub mod TokensBack
+pub mod TokensRead

@@ -16,7 +16,7 @@ use Rattle.zr_world.specs.declared.effects.Refusal.{Refusal}
 use Rattle.zr_world.specs.declared.pools.Pools.{Pools}
 use Rattle.zr_world.specs.Effect.{after_since, ComesUnless, Effect, Leaves, new_set, Replies, row_at, shown_at, ShowsSets}
 use Rattle.zr_world.specs.Pools.{IsWellFormed}
-use Rattle.zr_world.specs.Reasons.{first_that_applies, reasons, refusal, refusal_since, source_reasons}
+use Rattle.zr_world.specs.Reasons.{refusal, refusal_since}
 use Rattle.zr_world.specs.Rows.{row_of_set}
 use Rattle.zr_world.proofs.Applied.{row_at-map}
 use Rattle.zr_world.proofs.Order.{set-chained}
@@ -58,18 +58,9 @@ none-same since before after command result effect = choose (refusal_since effec
   choose None (Ok given) comes = comes.0
   choose None (Err why) comes = absurd comes
 
--- where no reason of two lists applies, none of both one behind the other does
-unrefused : (first more : List (Bool × Refusal)) → first_that_applies first ≡ None → first_that_applies more ≡ None → first_that_applies (first ++ more) ≡ None
-unrefused [] more none rest = rest
-unrefused ((b, why) ∷ first) more none rest = choose b none (λ e. unrefused first more e rest) where
-  choose : (c : Bool) → first_that_applies ((c, why) ∷ first) ≡ None → (first_that_applies first ≡ None → first_that_applies (first ++ more) ≡ None) → first_that_applies (((c, why) ∷ first) ++ more) ≡ None
-  choose true e later = cc
-  choose false e later = later e
-
 -- a transfer comes that read its source at one moment since its issue, also where the source is gone by then
-pub read-earlier : (since : List Pools) (before earlier : Pools) (transfer : Transfer) → Contains since earlier → first_that_applies (source_reasons earlier (cmd.Transfer transfer)) ≡ None → first_that_applies (reasons before (cmd.Transfer transfer)) ≡ None → Effect since before (cmd.Transfer transfer) extent.Whole (after_since earlier before (cmd.Transfer transfer)) (Ok reply.Nothing)
-read-earlier since before earlier transfer among source target =
-    let none = unrefused (source_reasons earlier (cmd.Transfer transfer)) (reasons before (cmd.Transfer transfer)) source target in
+pub read-earlier : (since : List Pools) (before earlier : Pools) (transfer : Transfer) → Contains since earlier → refusal_since earlier before (cmd.Transfer transfer) ≡ None → Effect since before (cmd.Transfer transfer) extent.Whole (after_since earlier before (cmd.Transfer transfer)) (Ok reply.Nothing)
+read-earlier since before earlier transfer among none =
     let left = after_since earlier before (cmd.Transfer transfer) in
     record {
       earlier = earlier;

@@ -25,13 +25,13 @@ use Rattle.zr_command.specs.declared.version.VersionName.TheVariants.{Snap, Mark
 use Rattle.zr_names.specs.declared.unit.Guid.{Guid}
 use Rattle.zr_command.specs.declared.version.VersionRow.{VersionRow}
 use Rattle.zr_world.specs.Answering.{IsReplyTo}
-use Rattle.zr_world.specs.Effect.{aborted, Aborts, after_since, bookmark_of, bookmarked, chosen, chosen_of, first_receive_at, Leaves, new_set, part_of, partial_of, received, reply_to, snapshotted, taken, transferred, with_new, with_partial, with_set, with_tags, with_target, with_version, without_set, without_tag, without, without_all}
+use Rattle.zr_world.specs.Effect.{aborted, Aborts, after_since, bookmark_of, bookmarked, chosen, chosen_of, first_receive_at, Leaves, new_set, part_of, partial_of, received, reply_to, snapshotted, taken, transferred, with_new, with_partial, with_set, with_tags, with_target, with_version, without_set, without_tag, without, without_all, arriving, cut}
 use Rattle.zr_world.specs.Lookup.{dataset_at, has_guid, has_name, in_first_receive, is_at, is_snapshot, newest, parent_at, tags_at, version_at}
 use Rattle.zr_command.specs.Kinds.{names_snap}
 use Rattle.zr_command.specs.Names.{is_below, is_tagged, same_name}
 use Rattle.zr_command.specs.Listings.{stands_before, IsSetList, IsVersionList}
 use Rattle.zr_world.specs.Pools.{IsWellFormed, IsWellFormedSet, MarkIsFree}
-use Rattle.zr_world.specs.Reasons.{are_spent, first_that_applies, full_reasons, increment_reasons, is_spent, reasons, refusal_since, source_reasons, target_reasons}
+use Rattle.zr_world.specs.Reasons.{are_spent, arrival_reasons, first_that_applies, full_reasons, increment_reasons, is_spent, partial_reasons, refusal_since, source_reasons, transfer_reasons}
 use Rattle.zr_world.specs.Rows.{row_of_set, row_of_version}
 use Rattle.zr_world.proofs.Keeping.{found-none, found-passes}
 use Rattle.zr_world.proofs.WellFormed.{added-keeps, arrived-keeps, fewer-differ, later-keeps, more-differ, partial-keeps, partial_gone-keeps, placeholder-keeps, removal-keeps, tags-keep, tags_at-differ, version_at-All, TagsDiffer, without_set-keeps}
@@ -78,12 +78,12 @@ bumped pools path change next = choose (is_some (dataset_at pools path)) where
   choose false = refl
 
 -- a snapshot of a new name arrives in a new transaction group
-received-keeps : (pools : Pools) (target : List ℕ) (version : Version) → version_at pools target version.name ≡ None → (names_snap version.name ≡ true) → IsWellFormed pools → IsWellFormed (record (with_target pools target (with_version (received pools.next_txg version))) { next_txg = pools.next_txg + 1 })
-received-keeps pools target version none snapshot formed =
+received-keeps : (pools : Pools) (target : List ℕ) (from : Base) (version : Version) → version_at pools target version.name ≡ None → (names_snap version.name ≡ true) → IsWellFormed pools → IsWellFormed (record (with_target pools target (arriving from (received pools.next_txg version))) { next_txg = pools.next_txg + 1 })
+received-keeps pools target from version none snapshot formed =
     let next : Pools = record pools { next_txg = pools.next_txg + 1 } in
     let free : MarkIsFree (received pools.next_txg version) = λ marked. refl in
-    subst IsWellFormed (sym (bumped pools target (with_version (received pools.next_txg version)) (pools.next_txg + 1)))
-    (arrived-keeps next target (received pools.next_txg version) none (AllPairs-nil (λ (a : List ℕ) (b : List ℕ). a ≢ b)) free (omega arith) (later-keeps pools pools.next_guid formed))
+    subst IsWellFormed (sym (bumped pools target (arriving from (received pools.next_txg version)) (pools.next_txg + 1)))
+    (arrived-keeps next target from (received pools.next_txg version) none (AllPairs-nil (λ (a : List ℕ) (b : List ℕ). a ≢ b)) free (omega arith) (later-keeps pools pools.next_guid formed))
 
 transfer-keeps : (earlier pools : Pools) (transfer : Transfer) → version_at pools transfer.target (Snap transfer.to) ≡ None → IsWellFormed pools → IsWellFormed (transferred pools transfer (version_at earlier transfer.source (Snap transfer.to)))
 transfer-keeps earlier pools transfer none formed = choose (version_at earlier transfer.source (Snap transfer.to)) refl where
@@ -91,7 +91,7 @@ transfer-keeps earlier pools transfer none formed = choose (version_at earlier t
   choose None is = formed
   choose (Some version) is =
       let name = version_at-name earlier transfer.source transfer.to version is in
-      received-keeps pools transfer.target version (ap (version_at pools transfer.target) name ∙ none) (ap names_snap name) formed
+      received-keeps pools transfer.target transfer.base version (ap (version_at pools transfer.target) name ∙ none) (ap names_snap name) formed
 
 -- a snapshot of a new name is taken in a new transaction group
 snapshot-keeps : (pools : Pools) (path name : List ℕ) → version_at pools path (Snap name) ≡ None → IsWellFormed pools → IsWellFormed (snapshotted pools path name)
@@ -165,10 +165,24 @@ increment-new pools transfer guid (Some set) e =
     let three = none-first there Exists ((is_spent pools, Spent) ∷ []) two.1 in
     nothing-there (version_at pools transfer.target (Snap transfer.to)) three.0
 
-arrival-new : (pools : Pools) (transfer : Transfer) (from : Base) → first_that_applies (target_reasons pools transfer from) ≡ None → version_at pools transfer.target (Snap transfer.to) ≡ None
-arrival-new pools transfer base.Full e = full-new pools transfer e
-arrival-new pools transfer (base.From mark guid) e =
-    increment-new pools transfer guid (dataset_at pools transfer.target) e
+-- where nothing may be found there, nothing is
+first-none : {T : Type 0} (found : Option T) (why : Refusal) (more : List (Bool × Refusal)) → first_that_applies ((is_some found, why) ∷ more) ≡ None → found ≡ None
+first-none found why more allowed = nothing-there found (none-first (is_some found) why more allowed).0
+
+-- where a resume is not refused, its target has no snapshot of the name that arrives
+resume-new : (pools : Pools) (transfer : Transfer) → first_that_applies (arrival_reasons pools transfer) ≡ None → version_at pools transfer.target (Snap transfer.to) ≡ None
+resume-new pools transfer e = first-none (version_at pools transfer.target (Snap transfer.to)) Exists ((is_spent pools, Spent) ∷ []) e
+
+arrival-new : (earlier pools : Pools) (transfer : Transfer) (from : Base) → first_that_applies (transfer_reasons earlier pools transfer from) ≡ None → version_at pools transfer.target (Snap transfer.to) ≡ None
+arrival-new earlier pools transfer base.Full e =
+    full-new pools transfer (reasons-behind (source_reasons earlier transfer base.Full) (full_reasons pools transfer (dataset_at pools transfer.target)) e)
+arrival-new earlier pools transfer (base.From mark guid) e =
+    increment-new pools transfer guid (dataset_at pools transfer.target)
+    (reasons-behind (source_reasons earlier transfer (base.From mark guid)) (increment_reasons pools transfer guid (dataset_at pools transfer.target)) e)
+arrival-new earlier pools transfer (base.Resume token from) e =
+    let source = source_reasons earlier transfer (base.Resume token from) in
+    let behind = reasons-behind (partial_reasons token (dataset_at pools transfer.target)) (source ++ arrival_reasons pools transfer) e in
+    resume-new pools transfer (reasons-behind source (arrival_reasons pools transfer) behind)
 
 removals-keep : (pools : Pools) (path : List ℕ) (names : List VersionName) → IsWellFormed pools → IsWellFormed (without_all pools path names)
 removals-keep pools path [] formed = formed
@@ -187,6 +201,7 @@ pub table-leaves : (earlier pools : Pools) (command : Cmd) → Leaves earlier po
 table-leaves earlier pools cmd.Sets = refl
 table-leaves earlier pools (cmd.Versions path) = refl
 table-leaves earlier pools (cmd.Holds path name) = refl
+table-leaves earlier pools (cmd.Token token) = refl
 table-leaves earlier pools (cmd.Snapshot path name) = refl
 table-leaves earlier pools (cmd.Hold kind job path name) = refl
 table-leaves earlier pools (cmd.Release kind job path name) = refl
@@ -211,14 +226,12 @@ second-none first found why other more allowed =
     let two = none-first (is_some found) other more one.1 in
     nothing-there found two.0
 
-first-none : {T : Type 0} (found : Option T) (why : Refusal) (more : List (Bool × Refusal)) → first_that_applies ((is_some found, why) ∷ more) ≡ None → found ≡ None
-first-none found why more allowed = nothing-there found (none-first (is_some found) why more allowed).0
-
 -- a command that is not refused leaves well-formed pools well formed
 pub after-keeps : (earlier pools after : Pools) (command : Cmd) → refusal_since earlier pools command ≡ None → Leaves earlier pools command after → IsWellFormed pools → IsWellFormed after
 after-keeps earlier pools after cmd.Sets allowed leaves formed = subst IsWellFormed (sym leaves) formed
 after-keeps earlier pools after (cmd.Versions path) allowed leaves formed = subst IsWellFormed (sym leaves) formed
 after-keeps earlier pools after (cmd.Holds path name) allowed leaves formed = subst IsWellFormed (sym leaves) formed
+after-keeps earlier pools after (cmd.Token token) allowed leaves formed = subst IsWellFormed (sym leaves) formed
 after-keeps earlier pools after (cmd.Snapshot path name) allowed leaves formed =
     let none = second-none (is_none (dataset_at pools path)) (version_at pools path (Snap name)) NoSuch Exists ((are_spent pools, Spent) ∷ []) allowed in
     subst IsWellFormed (sym leaves) (snapshot-keeps pools path name none formed)
@@ -238,15 +251,22 @@ after-keeps earlier pools after (cmd.Create path) allowed leaves formed =
     let none = first-none (dataset_at pools path) Exists ((is_none (parent_at pools path), NoSuch) ∷ (option_map_or in_first_receive (parent_at pools path) false, HasPartial) ∷ []) allowed in
     subst IsWellFormed (sym leaves) (placeholder-keeps pools path none formed)
 after-keeps earlier pools after (cmd.Transfer transfer) allowed leaves formed =
-    let behind = reasons-behind (source_reasons earlier (cmd.Transfer transfer)) (reasons pools (cmd.Transfer transfer)) allowed in
-    subst IsWellFormed (sym leaves) (transfer-keeps earlier pools transfer (arrival-new pools transfer transfer.base behind) formed)
+    subst IsWellFormed (sym leaves) (transfer-keeps earlier pools transfer (arrival-new earlier pools transfer transfer.base allowed) formed)
 after-keeps earlier pools after (cmd.Abort path) allowed leaves formed = abort-keeps pools after path leaves formed
+
+cut-keeps : (pools : Pools) (transfer : Transfer) (from : Base) → IsWellFormed pools → IsWellFormed (cut pools transfer from)
+cut-keeps pools transfer base.Full formed =
+    partial-keeps pools transfer.target (with_partial (Some (partial_of transfer))) (λ set. refl) (λ set. refl) formed
+cut-keeps pools transfer (base.From mark guid) formed =
+    partial-keeps pools transfer.target (with_partial (Some (partial_of transfer))) (λ set. refl) (λ set. refl) formed
+cut-keeps pools transfer (base.Resume token from) formed = formed
 
 -- so does a chosen extent of it
 pub chosen-keeps : (pools : Pools) (command : Cmd) (bits : ℕ) → IsWellFormed pools → IsWellFormed (chosen_of pools command bits)
 chosen-keeps pools cmd.Sets bits formed = formed
 chosen-keeps pools (cmd.Versions path) bits formed = formed
 chosen-keeps pools (cmd.Holds path name) bits formed = formed
+chosen-keeps pools (cmd.Token token) bits formed = formed
 chosen-keeps pools (cmd.Snapshot path name) bits formed = formed
 chosen-keeps pools (cmd.Hold kind job path name) bits formed = formed
 chosen-keeps pools (cmd.Release kind job path name) bits formed = formed
@@ -262,6 +282,7 @@ pub part-keeps : (pools : Pools) (command : Cmd) → IsWellFormed pools → IsWe
 part-keeps pools cmd.Sets formed = formed
 part-keeps pools (cmd.Versions path) formed = formed
 part-keeps pools (cmd.Holds path name) formed = formed
+part-keeps pools (cmd.Token token) formed = formed
 part-keeps pools (cmd.Snapshot path name) formed = formed
 part-keeps pools (cmd.Hold kind job path name) formed = formed
 part-keeps pools (cmd.Release kind job path name) formed = formed
@@ -269,8 +290,7 @@ part-keeps pools (cmd.Bookmark path version mark) formed = formed
 part-keeps pools (cmd.DestroySnaps path names) formed = formed
 part-keeps pools (cmd.DestroyMark path mark) formed = formed
 part-keeps pools (cmd.Create path) formed = formed
-part-keeps pools (cmd.Transfer transfer) formed =
-    partial-keeps pools transfer.target (with_partial (Some (partial_of transfer))) (λ set. refl) (λ set. refl) formed
+part-keeps pools (cmd.Transfer transfer) formed = cut-keeps pools transfer transfer.base formed
 part-keeps pools (cmd.Abort path) formed = formed
 
 not-below-itself : (o : Ordering) → o ≡ ordering_reverse o → is_lt o ≡ true → ⊥
@@ -309,6 +329,7 @@ pub reply-fits : (pools : Pools) (command : Cmd) → IsWellFormed pools → IsRe
 reply-fits pools cmd.Sets formed = sets-list pools formed
 reply-fits pools (cmd.Versions path) formed = versions-list-at pools path (dataset_at pools path) refl formed
 reply-fits pools (cmd.Holds path name) formed = tags_at-differ pools path (Snap name) formed
+reply-fits pools (cmd.Token token) formed = tt
 reply-fits pools (cmd.Snapshot path name) formed = tt
 reply-fits pools (cmd.Hold kind job path name) formed = tt
 reply-fits pools (cmd.Release kind job path name) formed = tt

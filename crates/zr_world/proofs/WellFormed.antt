@@ -7,12 +7,14 @@ use Rattle.std.proofs.lemmas.List.Elements.{All-cons, All-filter, All-nil}
 use Rattle.std.proofs.lemmas.List.Kept.{AllPairs-filter}
 use Rattle.std.proofs.lemmas.List.Quantifiers.{all_pairs_push}
 use Rattle.zr_base.proofs.Lists.{AllPairs-nil, found_from_All}
+use Rattle.zr_command.specs.declared.command.Base.{Base}
+use Rattle.zr_command.specs.declared.command.Base.TheVariants as base
 use Rattle.zr_world.specs.declared.pools.Dataset.{Dataset}
 use Rattle.zr_world.specs.declared.pools.Pools.{Pools}
 use Rattle.zr_world.specs.declared.pools.Version.{Version}
 use Rattle.zr_command.specs.declared.version.VersionName.{VersionName}
 use Rattle.zr_command.specs.declared.version.VersionName.TheVariants.{Snap, Mark}
-use Rattle.zr_world.specs.Effect.{new_placeholder, new_set, set_before, version_before, with_new, with_partial, with_set, with_tags, with_target, with_version, without, without_set, without_tag}
+use Rattle.zr_world.specs.Effect.{arriving, new_placeholder, new_set, put_in, set_before, version_before, with_new, with_partial, with_set, with_tags, with_target, with_version, without, without_set, without_tag}
 use Rattle.zr_world.specs.Lookup.{dataset_at, has_name, is_at, tags_at, version_at}
 use Rattle.zr_command.specs.Names.{is_below, is_tagged, same_name, same_text}
 use Rattle.zr_command.specs.Listings.{stands_before}
@@ -220,23 +222,40 @@ partial_gone-keeps pools path formed =
       made_before = set_formed.made_before;
     }) formed
 
--- a version of a new name arrives on the target
-pub arrived-keeps : (pools : Pools) (path : List ℕ) (version : Version) → version_at pools path version.name ≡ None → TagsDiffer version.tags → MarkIsFree version → version.txg < pools.next_txg → IsWellFormed pools → IsWellFormed (with_target pools path (with_version version))
-arrived-keeps pools path version none differ free made formed =
-    with_target-keeps pools path (with_version version) (λ set. refl)
-    (λ set found set_formed. with_version-keeps pools.next_txg version set (others-in pools path version.name set none found) differ free made set_formed)
-    (λ absent. with_version-keeps pools.next_txg version (new_set path) (All-nil (λ (v : Version). version.name ≢ v.name)) differ free made (new_set-formed pools.next_txg path)) formed
+-- what a dataset with these versions has that is well formed
+same-versions : (next : ℕ) (one other : Dataset) → other.versions ≡ one.versions → IsWellFormedSet next one → IsWellFormedSet next other
+same-versions next one other same formed = record {
+  in_order = subst (λ (vs : List Version). AllPairs Before vs) (sym same) formed.in_order;
+  names_differ = subst (λ (vs : List Version). AllPairs Other vs) (sym same) formed.names_differ;
+  tags_differ = subst (λ (vs : List Version). All (λ v. TagsDiffer v.tags) vs) (sym same) formed.tags_differ;
+  marks_free = subst (λ (vs : List Version). All MarkIsFree vs) (sym same) formed.marks_free;
+  made_before = subst (λ (vs : List Version). All (λ v. v.txg < next) vs) (sym same) formed.made_before;
+}
+
+-- a version of a new name arrives on the target of a transfer of this base
+pub arrived-keeps : (pools : Pools) (path : List ℕ) (from : Base) (version : Version) → version_at pools path version.name ≡ None → TagsDiffer version.tags → MarkIsFree version → version.txg < pools.next_txg → IsWellFormed pools → IsWellFormed (with_target pools path (arriving from version))
+arrived-keeps pools path from version none differ free made formed =
+    let moved : (set : Dataset) → IsWellFormedSet pools.next_txg (with_version version set) → IsWellFormedSet pools.next_txg (arriving from version set) = λ set set_formed.
+    same-versions pools.next_txg (with_version version set) (arriving from version set) (arriving-versions from version set) set_formed in
+    with_target-keeps pools path (arriving from version) (arriving-path from version)
+    (λ set found set_formed. moved set (with_version-keeps pools.next_txg version set (others-in pools path version.name set none found) differ free made set_formed))
+    (λ absent. moved (new_set path) (with_version-keeps pools.next_txg version (new_set path) (All-nil (λ (v : Version). version.name ≢ v.name)) differ free made (new_set-formed pools.next_txg path))) formed
+  where
+    arriving-path : (from : Base) (version : Version) (set : Dataset) → (arriving from version set).path ≡ set.path
+    arriving-path base.Full version set = refl
+    arriving-path (base.From mark guid) version set = refl
+    arriving-path (base.Resume token guid) version set = refl
+
+    arriving-versions : (from : Base) (version : Version) (set : Dataset) → (arriving from version set).versions ≡ (with_version version set).versions
+    arriving-versions base.Full version set = refl
+    arriving-versions (base.From mark guid) version set = refl
+    arriving-versions (base.Resume token guid) version set = refl
 
 pub partial-keeps : (pools : Pools) (path : List ℕ) (change : Dataset → Dataset) → ((set : Dataset) → (change set).path ≡ set.path) → ((set : Dataset) → (change set).versions ≡ set.versions) → IsWellFormed pools → IsWellFormed (with_target pools path change)
 partial-keeps pools path change same_path same_versions formed =
-    let moved : (set : Dataset) → IsWellFormedSet pools.next_txg set → IsWellFormedSet pools.next_txg (change set) = λ set set_formed. record {
-      in_order = subst (λ (vs : List Version). AllPairs Before vs) (sym (same_versions set)) set_formed.in_order;
-      names_differ = subst (λ (vs : List Version). AllPairs Other vs) (sym (same_versions set)) set_formed.names_differ;
-      tags_differ = subst (λ (vs : List Version). All (λ v. TagsDiffer v.tags) vs) (sym (same_versions set)) set_formed.tags_differ;
-      marks_free = subst (λ (vs : List Version). All MarkIsFree vs) (sym (same_versions set)) set_formed.marks_free;
-      made_before = subst (λ (vs : List Version). All (λ v. v.txg < pools.next_txg) vs) (sym (same_versions set)) set_formed.made_before;
-    } in
-    with_target-keeps pools path change same_path (λ set found set_formed. moved set set_formed) (λ absent. moved (new_set path) (new_set-formed pools.next_txg path)) formed
+    with_target-keeps pools path change same_path
+    (λ set found set_formed. same-versions pools.next_txg set (change set) (same_versions set) set_formed)
+    (λ absent. same-versions pools.next_txg (new_set path) (change (new_set path)) (same_versions (new_set path)) (new_set-formed pools.next_txg path)) formed
 
 -- the next transaction group may be later, and the next guid another one
 pub later-keeps : (pools : Pools) (guid : ℕ) → IsWellFormed pools → IsWellFormed (record pools { next_txg = pools.next_txg + 1; next_guid = guid })

@@ -1,4 +1,4 @@
-use Rattle.std.specs.Prelude.{◌≡◌, ◌≢◌, ◌≤◌, ℕ, Bool, true, false, List, [], ◌∷◌, ◌++◌, Option, Some, None, Ok, ⊤, ◌⊎◌, AllPairs}
+use Rattle.std.specs.Prelude.{◌≡◌, ◌≢◌, ◌≤◌, ℕ, Bool, true, false, List, [], ◌∷◌, ◌++◌, Option, Some, None, Ok, option_map, ⊤, ◌⊎◌, AllPairs}
 use Rattle.zr_base.specs.Count.{Rose}
 use Rattle.zr_world.specs.declared.effects.Extent.TheVariants as extent
 use Rattle.zr_command.specs.declared.command.Answer.{Answer}
@@ -12,7 +12,15 @@ use Rattle.zr_world.specs.declared.pools.Pools.{Pools}
 use Rattle.zr_world.specs.Effect.{Effect, MayCome}
 use Rattle.zr_command.specs.Plain.{plain}
 use Rattle.zr_command.specs.Listings.{IsSetList, IsVersionList}
+use Rattle.zr_command.specs.declared.command.Base.{Base}
+use Rattle.zr_command.specs.declared.command.Base.TheVariants as base
+use Rattle.zr_command.specs.declared.command.Transfer.{Transfer}
+use Rattle.zr_command.specs.declared.version.VersionName.TheVariants.{Snap}
+use Rattle.zr_names.specs.declared.unit.Guid.{Guid}
+use Rattle.zr_world.specs.declared.pools.Partial.{Partial}
+use Rattle.zr_world.specs.Lookup.{first_of_guid}
 use Rattle.zr_world.specs.Reasons.{first_that_applies, source_reasons}
+use Rattle.zr_world.specs.Tokens.{partial_of_token}
 
 abbrev pub is_failed : Answer → Bool
 is_failed Failed = true
@@ -48,11 +56,36 @@ abbrev pub Answers : Cmd → Pools → Pools → Answer → Type 0
 Answers command before after (Done given) = Effect [] before command extent.Whole after (Ok given)
 Answers command before after answer = MayCome [] before command after
 
--- a transfer's words name no guids: the command that they give on these pools has the same words, and its guids are
--- those that stand on the source
+-- the words of a resume name its token: its source and guids are the token's, and its snapshot is the first on that
+-- source with the token's guid
+pub record IsByToken (pools : Pools) (transfer : Transfer) (token : List ℕ) (from : Option Guid) : Type 0 where
+  pub partial : Partial
+  pub is : partial_of_token token ≡ Some partial
+  pub source : transfer.source ≡ partial.source
+  pub guid : transfer.guid ≡ partial.to
+  pub incremental : from ≡ partial.from
+  pub first : option_map (λ version. version.name) (first_of_guid pools partial.source partial.to) ≡ Some (Snap transfer.to)
+
+-- the words of a transfer of this base name no guids, which are those that stand on the source
+abbrev pub StandsFrom : Pools → Transfer → Base → Type 0
+StandsFrom pools transfer base.Full = first_that_applies (source_reasons pools transfer base.Full) ≡ None
+StandsFrom pools transfer (base.From mark guid) =
+    first_that_applies (source_reasons pools transfer (base.From mark guid)) ≡ None
+StandsFrom pools transfer (base.Resume token from) = IsByToken pools transfer token from
+
+-- what the words of a transfer do not name is as it stands on these pools
+abbrev pub StandsOn : Pools → Transfer → Type 0
+StandsOn pools transfer = StandsFrom pools transfer transfer.base
+
+abbrev pub Stands : Pools → Cmd → Type 0
+Stands pools (cmd.Transfer transfer) = StandsOn pools transfer
+Stands pools command = ⊤
+
+-- the command that the words of a command give on these pools: it has the same words, and what they do not name is as it
+-- stands there
 pub record IsGiven (pools : Pools) (asked given : Cmd) : Type 0 where
   pub same_words : plain given ≡ plain asked
-  pub stands : first_that_applies (source_reasons pools given) ≡ None
+  pub stands : Stands pools given
 
 -- a command is answered by its own effect or, where it is a transfer, by that of the command that its words give
 abbrev pub AnswersWords : Cmd → Pools → Pools → Answer → Type 0
@@ -72,6 +105,7 @@ abbrev pub IsReplyTo : Cmd → Answer → Type 0
 IsReplyTo cmd.Sets (Done (reply.Sets rows)) = IsSetList rows
 IsReplyTo (cmd.Versions path) (Done (reply.Versions rows)) = IsVersionList rows
 IsReplyTo (cmd.Holds path name) (Done (reply.Holds tags)) = AllPairs (λ a b. a ≢ b) tags
+IsReplyTo (cmd.Token token) (Done (reply.Token info)) = ⊤
 IsReplyTo (cmd.Snapshot path name) (Done reply.Nothing) = ⊤
 IsReplyTo (cmd.Hold kind job path name) (Done reply.Nothing) = ⊤
 IsReplyTo (cmd.Release kind job path name) (Done reply.Nothing) = ⊤
@@ -84,6 +118,7 @@ IsReplyTo (cmd.Abort path) (Done reply.Nothing) = ⊤
 IsReplyTo cmd.Sets (Garbled line) = ⊤
 IsReplyTo (cmd.Versions path) (Garbled line) = ⊤
 IsReplyTo (cmd.Holds path name) (Garbled line) = ⊤
+IsReplyTo (cmd.Token token) (Garbled line) = ⊤
 IsReplyTo command Failed = ⊤
 IsReplyTo command NoMemory = ⊤
 IsReplyTo command answer = ⊥

@@ -19,9 +19,13 @@ use Rattle.zr_world.specs.declared.pools.Version.{Version}
 use Rattle.zr_command.specs.declared.version.VersionName.{VersionName}
 use Rattle.zr_command.specs.declared.version.VersionName.TheVariants.{Snap, Mark}
 use Rattle.zr_command.specs.declared.version.SetRow.{SetRow}
-use Rattle.zr_world.specs.Lookup.{dataset_at, has_name, in_first_receive, is_at, tags_at, version_at}
+use Rattle.zr_world.specs.Lookup.{dataset_at, has_name, in_first_receive, is_at, tags_at, version_at, versions_at}
 use Rattle.zr_command.specs.Names.{is_below, same_text}
-use Rattle.zr_command.specs.Plain.{base_guid}
+use Rattle.zr_command.specs.Plain.{base_guid, no_guid}
+use Rattle.zr_command.specs.declared.command.Base.{Base}
+use Rattle.zr_command.specs.declared.command.Base.TheVariants as base
+use Rattle.zr_command.specs.declared.version.TokenInfo.{TokenInfo}
+use Rattle.zr_world.specs.Tokens.{info_of, partial_of_token}
 use Rattle.zr_command.specs.Listings.{stands_before}
 use Rattle.zr_world.specs.Reasons.{refusal, refusal_since}
 use Rattle.zr_world.specs.Rows.{row_of_set, row_of_version}
@@ -59,6 +63,12 @@ version_before one other = stands_before one.txg one.name other.txg other.name
 
 abbrev pub with_version : Version → Dataset → Dataset
 with_version version set = record set { versions = put_in version_before version set.versions }
+
+-- a version of a transfer of this base arrives on its target; a resume completes the partial receive, which goes
+abbrev pub arriving : Base → Version → Dataset → Dataset
+arriving base.Full version set = with_version version set
+arriving (base.From mark guid) version set = with_version version set
+arriving (base.Resume token from) version set = with_version version (with_partial None set)
 
 -- a bookmark has the guid, the transaction group and the time of what it was made from, and no holds
 abbrev pub bookmark_of : List ℕ → Version → Version
@@ -129,7 +139,7 @@ partial_of transfer = record { to = transfer.guid; from = base_guid transfer.bas
 abbrev pub transferred : Pools → Transfer → Option Version → Pools
 transferred pools transfer None = pools
 transferred pools transfer (Some version) =
-    record (with_target pools transfer.target (with_version (received pools.next_txg version))) {
+    record (with_target pools transfer.target (arriving transfer.base (received pools.next_txg version))) {
       next_txg = pools.next_txg + 1;
     }
 
@@ -164,10 +174,15 @@ after_since earlier pools (cmd.Transfer transfer) =
 after_since earlier pools (cmd.Abort path) = aborted pools path
 after_since earlier pools command = pools
 
--- what stands after a part of a command: a transfer leaves a partial receive, every other command nothing
+-- what stands after a part of a transfer of this base: it leaves a partial receive, a resume the one that was there
+abbrev pub cut : Pools → Transfer → Base → Pools
+cut pools transfer base.Full = with_target pools transfer.target (with_partial (Some (partial_of transfer)))
+cut pools transfer (base.From mark guid) = with_target pools transfer.target (with_partial (Some (partial_of transfer)))
+cut pools transfer (base.Resume token from) = pools
+
+-- what stands after a part of a command: only a transfer can come in part
 abbrev pub part_of : Pools → Cmd → Pools
-part_of pools (cmd.Transfer transfer) =
-    with_target pools transfer.target (with_partial (Some (partial_of transfer)))
+part_of pools (cmd.Transfer transfer) = cut pools transfer transfer.base
 part_of pools command = pools
 
 -- what stands after a chosen extent of a command: a destroy takes the chosen snapshots away, every other command nothing
@@ -175,12 +190,17 @@ abbrev pub chosen_of : Pools → Cmd → ℕ → Pools
 chosen_of pools (cmd.DestroySnaps path names) bits = without_all pools path (map Snap (chosen bits names))
 chosen_of pools command bits = pools
 
+-- stands where a token says nothing
+abbrev pub no_info : TokenInfo
+no_info = record { to = no_guid; from = None }
+
 -- what a command that came whole gives back
 abbrev pub reply_to : Pools → Cmd → Reply
 reply_to pools cmd.Sets = reply.Sets (map row_of_set pools.sets)
 reply_to pools (cmd.Versions path) =
-    reply.Versions (map row_of_version (option_map_or (λ set. set.versions) (dataset_at pools path) []))
+    reply.Versions (map row_of_version (versions_at pools path))
 reply_to pools (cmd.Holds path name) = reply.Holds (tags_at pools path (Snap name))
+reply_to pools (cmd.Token token) = reply.Token (option_map_or info_of (partial_of_token token) no_info)
 reply_to pools command = reply.Nothing
 
 -- what a command does: it is refused, or leaves pools and a reply

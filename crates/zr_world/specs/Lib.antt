@@ -7,3 +7,4 @@ pub mod Planned
 pub mod Pools
 pub mod Reasons
 pub mod Rows
+pub mod Tokens

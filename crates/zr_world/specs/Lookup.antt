@@ -1,4 +1,4 @@
-use Rattle.std.specs.Prelude.{◌==◌, ◌&&◌, ℕ, Bool, false, not, List, [], Option, ◌∷◌, find, is_some, is_none, drop, length, nat_lt, reverse, take}
+use Rattle.std.specs.Prelude.{◌==◌, ◌&&◌, ℕ, Bool, true, false, not, List, [], Option, Some, None, ◌∷◌, find, is_some, is_none, drop, length, nat_lt, reverse, take}
 use Rattle.std.specs.List.{list_any}
 use Rattle.std.specs.Option.{option_and_then, option_map_or}
 use Rattle.zr_names.specs.declared.unit.Guid.{Guid}
@@ -65,3 +65,16 @@ in_first_receive set = is_some set.partial && is_none (newest set) && not set.pl
 -- the partial receive of the dataset at this path
 abbrev pub partial_at : Pools → List ℕ → Option Partial
 partial_at pools path = option_and_then (λ set. set.partial) (dataset_at pools path)
+
+-- the versions of the dataset at this path
+abbrev pub versions_at : Pools → List ℕ → List Version
+versions_at pools path = option_map_or (λ set. set.versions) (dataset_at pools path) []
+
+-- a version of this guid, if one is asked for, stands in the dataset at this path
+abbrev pub has_source : Pools → List ℕ → Option Guid → Bool
+has_source pools path None = true
+has_source pools path (Some guid) = list_any (has_guid guid) (versions_at pools path)
+
+-- the first snapshot of this guid of the dataset at this path
+abbrev pub first_of_guid : Pools → List ℕ → Guid → Option Version
+first_of_guid pools path guid = find (λ version. is_snapshot version && has_guid guid version) (versions_at pools path)

@@ -1,6 +1,6 @@
 //! The changes that effects are made of: to a list, to a dataset, to the pools.
 
-ghost use Rattle.std.specs.Prelude.{◌≡◌, OnErr, OnOk, ◌≤◌, filter, length, not, position};
+ghost use Rattle.std.specs.Prelude.{◌≡◌, OnErr, OnOk, ◌≤◌, filter, length, not, position, None};
 ghost use Rattle.std.specs.List.{position_or_len};
 ghost use Rattle.zr_world.specs.Effect.{first_changed, put_in, set_before, version_before, with_new, with_partial, with_set, with_tags, with_version, without, without_set};
 ghost use Rattle.zr_world.specs.Lookup.{has_name, is_at};
@@ -109,7 +109,7 @@ fn replace_tags(versions: &mut [Version], name: &SnapName, tags: Rows<Tag>)
 
 impl Dataset {
     ghost use Rattle.std.specs.Prelude.{◌≡◌, OnErr, OnOk};
-    ghost use Rattle.zr_world.specs.Effect.{with_tags, with_version, without};
+    ghost use Rattle.zr_world.specs.Effect.{with_partial, with_tags, with_version, without};
     ghost use Rattle.zr_command.specs.declared.version.VersionName.TheVariants.{Snap};
 
     fn add(&mut self, alloc: Global, version: Version) -> Result<(), NoMemory>
@@ -120,6 +120,16 @@ impl Dataset {
         let added = insert_version(&mut versions, version);
         self.versions = Rows::from_vec(versions);
         added
+    }
+
+    /// Takes a version whose receive it had in part.
+    fn complete(&mut self, alloc: Global, version: Version) -> Result<(), NoMemory>
+        ensures ok { OnOk result (self.new ≡ with_version version (with_partial None self.old)) }
+        ensures err { OnErr result (self.new ≡ self.old) }
+    {
+        self.add(alloc, version)?;
+        self.partial = None;
+        Ok(())
     }
 
     fn remove(&mut self, alloc: Global, name: &VersionName)
@@ -154,6 +164,25 @@ fn add_in(
     };
     let set = &mut sets[place];
     set.add(alloc, version)?;
+    Ok(())
+}
+
+fn complete_in(
+    alloc: Global,
+    sets: &mut [Dataset],
+    path: &Path,
+    version: Version,
+) -> Result<(), NoMemory>
+    ensures ok { OnOk result (sets.new ≡
+        first_changed (is_at path.now) (λ set. with_version version (with_partial None set))
+        sets.old) }
+    ensures err { OnErr result (sets.new ≡ sets.old) }
+{
+    let Some(place) = place_of(sets, path) else {
+        return Ok(());
+    };
+    let set = &mut sets[place];
+    set.complete(alloc, version)?;
     Ok(())
 }
 
@@ -201,6 +230,23 @@ pub(crate) fn add_version(
     let added = add_in(alloc, sets.as_mut_slice(), path, version);
     pools.sets = Rows::from_vec(sets);
     added
+}
+
+/// Completes the partial receive of the dataset at this path with its version.
+pub(crate) fn complete_version(
+    alloc: Global,
+    pools: &mut Pools,
+    path: &Path,
+    version: Version,
+) -> Result<(), NoMemory>
+    ensures ok { OnOk result (pools.new ≡
+        with_set pools.old path.now (λ set. with_version version (with_partial None set))) }
+    ensures err { OnErr result (pools.new ≡ pools.old) }
+{
+    let mut sets = mem::replace(&mut pools.sets, Rows::new(alloc)).into_vec();
+    let completed = complete_in(alloc, sets.as_mut_slice(), path, version);
+    pools.sets = Rows::from_vec(sets);
+    completed
 }
 
 /// Takes a version of the dataset at this path away.

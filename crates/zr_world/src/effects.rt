@@ -1,22 +1,28 @@
 //! What each command does to the pools, at each extent: the table of effects.
 
-ghost use Rattle.std.specs.Prelude.{◌≡◌, ◌++◌, ◌∷◌, [], None, false, IfOk, OnOk, OnErr, map, option_map};
+ghost use Rattle.std.specs.Prelude.{◌≡◌, ◌++◌, ◌∷◌, [], None, false, IfOk, OnOk, OnErr, map, option_map, Some};
 ghost use Rattle.std.specs.Option.{option_map_or};
 ghost use Rattle.zr_names.specs.Marks.{tag_text};
-ghost use Rattle.zr_world.specs.Effect.{aborted, after_since, Applies, bookmarked, chosen, chosen_of, new_placeholder, part_of, received, reply_to, snapshotted, step_at, with_new, with_target, with_version, without_all, without_tag};
-ghost use Rattle.zr_world.specs.Lookup.{dataset_at, tags_at, version_at};
+ghost use Rattle.zr_world.specs.Effect.{aborted, after_since, Applies, arriving, bookmarked, chosen, chosen_of, cut, new_placeholder, no_info, part_of, partial_of, received, reply_to, snapshotted, step_at, with_new, with_partial, with_target, with_version, without_all, without_tag};
+ghost use Rattle.zr_world.specs.Lookup.{tags_at, version_at};
 ghost use Rattle.zr_world.specs.Reasons.{are_spent, is_spent, refusal};
 ghost use Rattle.zr_world.specs.Rows.{row_of_set, row_of_version};
+ghost use Rattle.zr_world.specs.Tokens.{info_of, partial_of_token};
+ghost use Rattle.zr_command.specs.declared.command.Reply.TheVariants as ReplyValue;
 ghost use Rattle.zr_command.specs.declared.command.Cmd.TheVariants as cmd;
 ghost use Rattle.zr_command.specs.declared.version.VersionName.TheVariants.{Snap};
 
-use crate::changes::{add_version, change_tags, make_set, remove_set, remove_version, set_partial};
+use crate::changes::{
+    add_version, change_tags, complete_version, make_set, remove_set, remove_version, set_partial,
+};
 use crate::pools::{Dataset, Partial, Pools, Version};
 use crate::reasons::{is_of, refusal, tags_at};
+use crate::token::partial_of_token;
 use std::alloc::Global;
-use zr_command::{Cmd, Reply, SetRow, Transfer, VersionName, VersionRow};
+use zr_command::{Base, Cmd, Reply, SetRow, TokenInfo, Transfer, VersionName, VersionRow};
 use zr_names::{
-    JobName, MarkName, NoMemory, Path, Rows, Same, SnapName, Tag, TagKind, same_items, tag_of,
+    Guid, JobName, MarkName, NoMemory, Path, Rows, Same, SnapName, Tag, TagKind, TokenText,
+    same_items, tag_of,
 };
 
 /// How much of a command's effect comes.
@@ -94,14 +100,17 @@ fn version_rows(alloc: Global, versions: &[Version]) -> Result<Rows<VersionRow>,
     Ok(Rows::from_vec(rows))
 }
 
-/// The versions of the dataset at this path.
-fn versions_at<'a>(pools: &'a Pools, path: &Path) -> &'a [Version]
-    ensures { result.now ≡ option_map_or (λ set. set.versions) (dataset_at pools.entry.now path.now)
-        [] }
+/// What a token says, and nothing where it is none of the model.
+fn token_reply(alloc: Global, token: &TokenText) -> Result<Reply, NoMemory>
+    ensures { IfOk result (λ reply. reply ≡
+        ReplyValue.Token (option_map_or info_of (partial_of_token token.now) no_info)) }
 {
-    match pools.dataset(path) {
-        Some(set) => set.versions.as_slice(),
-        None => &[],
+    match partial_of_token(alloc, token)? {
+        Some(partial) => Ok(Reply::Token(partial.info())),
+        None => Ok(Reply::Token(TokenInfo {
+            to: Guid(0),
+            from: None,
+        })),
     }
 }
 
@@ -111,10 +120,9 @@ fn reply(alloc: Global, pools: &Pools, cmd: &Cmd) -> Result<Reply, NoMemory>
 {
     match cmd {
         Cmd::Sets => Ok(Reply::Sets(set_rows(alloc, pools.sets.as_slice())?)),
-        Cmd::Versions(path) => {
-            Ok(Reply::Versions(version_rows(alloc, versions_at(pools, path))?))
-        }
+        Cmd::Versions(path) => { Ok(Reply::Versions(version_rows(alloc, pools.versions(path))?)) }
         Cmd::Holds(path, name) => Ok(Reply::Holds(same_items(alloc, tags_at(pools, path, name))?)),
+        Cmd::Token(token) => token_reply(alloc, token),
         Cmd::Snapshot(_, _)
         | Cmd::Hold(_, _, _, _)
         | Cmd::Release(_, _, _, _)
@@ -254,8 +262,44 @@ fn receive(
     make_set(alloc, pools, set)
 }
 
+/// Completes the partial receive of a target with its snapshot.
+fn complete(
+    alloc: Global,
+    pools: &mut Pools,
+    target: &Path,
+    version: Version,
+) -> Result<(), NoMemory>
+    ensures ok { OnOk result (pools.new ≡
+        with_target pools.old target.now (λ set. with_version version (with_partial None set))) }
+    ensures err { OnErr result (pools.new ≡ pools.old) }
+{
+    if pools.dataset(target).is_some() {
+        return complete_version(alloc, pools, target, version);
+    }
+    let mut set = Dataset::new(alloc, target.same()?);
+    set.versions.push(version)?;
+    make_set(alloc, pools, set)
+}
+
+/// Puts the snapshot of a transfer on its target.
+fn arrive(
+    alloc: Global,
+    pools: &mut Pools,
+    transfer: &Transfer,
+    version: Version,
+) -> Result<(), NoMemory>
+    ensures ok { OnOk result (pools.new ≡
+        with_target pools.old transfer.now.target (arriving transfer.now.base version)) }
+    ensures err { OnErr result (pools.new ≡ pools.old) }
+{
+    match &transfer.base {
+        Base::Full | Base::From(_, _) => receive(alloc, pools, &transfer.target, version),
+        Base::Resume(_, _) => complete(alloc, pools, &transfer.target, version),
+    }
+}
+
 /// The snapshot that a transfer makes, if its source is there.
-fn arriving(alloc: Global, pools: &Pools, transfer: &Transfer) -> Result<Option<Version>, NoMemory>
+fn sent(alloc: Global, pools: &Pools, transfer: &Transfer) -> Result<Option<Version>, NoMemory>
     ensures { IfOk result (λ version. version ≡ option_map (received pools.entry.now.next_txg)
         (version_at pools.entry.now transfer.now.source (Snap transfer.now.to))) }
 {
@@ -272,17 +316,18 @@ fn transfer(alloc: Global, pools: &mut Pools, transfer: &Transfer) -> Result<(),
         (pools.new ≡ after_since pools.old pools.old (cmd.Transfer transfer.now)) }
     ensures err { OnErr result (pools.new ≡ pools.old) }
 {
-    let Some(version) = arriving(alloc, pools, transfer)? else {
+    let Some(version) = sent(alloc, pools, transfer)? else {
         return Ok(());
     };
-    receive(alloc, pools, &transfer.target, version)?;
+    arrive(alloc, pools, transfer, version)?;
     pools.next_txg += 1;
     Ok(())
 }
 
 /// Leaves the partial receive of a transfer on its target, which it makes where it is absent.
 fn leave_partial(alloc: Global, pools: &mut Pools, transfer: &Transfer) -> Result<(), NoMemory>
-    ensures ok { OnOk result (pools.new ≡ part_of pools.old (cmd.Transfer transfer.now)) }
+    ensures ok { OnOk result (pools.new ≡
+        with_target pools.old transfer.now.target (with_partial (Some (partial_of transfer.now)))) }
     ensures err { OnErr result (pools.new ≡ pools.old) }
 {
     let partial = Partial::of(transfer)?;
@@ -358,6 +403,7 @@ fn choice(alloc: Global, pools: &mut Pools, cmd: &Cmd, bits: u64) -> Result<(), 
         Cmd::Sets
         | Cmd::Versions(_)
         | Cmd::Holds(_, _)
+        | Cmd::Token(_)
         | Cmd::Snapshot(_, _)
         | Cmd::Hold(_, _, _, _)
         | Cmd::Release(_, _, _, _)
@@ -397,7 +443,7 @@ fn change(alloc: Global, pools: &mut Pools, cmd: &Cmd) -> Result<(), NoMemory>
     ensures err { OnErr result (pools.new ≡ pools.old) }
 {
     match cmd {
-        Cmd::Sets | Cmd::Versions(_) | Cmd::Holds(_, _) => Ok(()),
+        Cmd::Sets | Cmd::Versions(_) | Cmd::Holds(_, _) | Cmd::Token(_) => Ok(()),
         Cmd::Snapshot(path, name) => snapshot(alloc, pools, path, name),
         Cmd::Hold(kind, job, path, name) => hold(alloc, pools, *kind, job, path, name),
         Cmd::Release(kind, job, path, name) => release(alloc, pools, *kind, job, path, name),
@@ -428,16 +474,28 @@ fn whole(alloc: Global, pools: &mut Pools, cmd: &Cmd) -> Result<Reply, NoMemory>
     Ok(reply)
 }
 
+/// Cuts a transfer; one that resumes leaves the partial receive that was there.
+fn cut(alloc: Global, pools: &mut Pools, transfer: &Transfer) -> Result<(), NoMemory>
+    ensures ok { OnOk result (pools.new ≡ cut pools.old transfer.now transfer.now.base) }
+    ensures err { OnErr result (pools.new ≡ pools.old) }
+{
+    match &transfer.base {
+        Base::Full | Base::From(_, _) => leave_partial(alloc, pools, transfer),
+        Base::Resume(_, _) => Ok(()),
+    }
+}
+
 /// Does a part of a command that is not refused.
 fn part(alloc: Global, pools: &mut Pools, cmd: &Cmd) -> Result<(), NoMemory>
     ensures ok { OnOk result (pools.new ≡ part_of pools.old cmd.now) }
     ensures err { OnErr result (pools.new ≡ pools.old) }
 {
     match cmd {
-        Cmd::Transfer(asked) => leave_partial(alloc, pools, asked),
+        Cmd::Transfer(asked) => cut(alloc, pools, asked),
         Cmd::Sets
         | Cmd::Versions(_)
         | Cmd::Holds(_, _)
+        | Cmd::Token(_)
         | Cmd::Snapshot(_, _)
         | Cmd::Hold(_, _, _, _)
         | Cmd::Release(_, _, _, _)
@@ -458,7 +516,7 @@ pub fn apply(
 ) -> Result<Reply, ApplyFault>
     ensures { Applies pools.old (step_at pools.old cmd.now extent) pools.new result }
 {
-    if let Some(refusal) = refusal(pools, cmd) {
+    if let Some(refusal) = refusal(alloc, pools, cmd)? {
         return Err(ApplyFault::Refused(refusal));
     }
     match extent {

@@ -1,11 +1,15 @@
 //! What holds of effects, for those who stand on the relation and not on its table.
 
-ghost use Rattle.std.specs.Prelude.{◌≡◌, ◌++◌, ◌∷◌, [], ℕ, All, Err, List, Ok, Option, Result, Some, None, map};
+ghost use Rattle.std.specs.Prelude.{◌≡◌, ◌++◌, ◌∷◌, [], ℕ, All, Err, List, Ok, Option, Result, Some, None, map, ◌<◌, ◌^◌, IfSome};
 ghost use Rattle.std.specs.List.{Contains};
 ghost use Rattle.zr_world.specs.Effect.{after_since, Applies, Effect, Gives, row_at, shown_at, step_at};
 ghost use Rattle.zr_world.specs.Pools.{IsWellFormed};
-ghost use Rattle.zr_world.specs.Reasons.{first_that_applies, reasons, refusal, source_reasons};
-ghost use Rattle.zr_world.specs.Rows.{row_of_set};
+ghost use Rattle.zr_world.specs.Reasons.{refusal, refusal_since};
+ghost use Rattle.zr_world.specs.Rows.{row_of_set, token_text};
+ghost use Rattle.zr_world.specs.Tokens.{partial_of_token};
+ghost use Rattle.zr_world.specs.declared.pools.Partial.{Partial};
+ghost use Rattle.zr_names.specs.Names.{IsName, path_is_bad};
+ghost use Rattle.zr_names.specs.declared.names.TheConstants.{PATH_LIMIT};
 ghost use Rattle.zr_command.specs.declared.command.Cmd.{Cmd};
 ghost use Rattle.zr_command.specs.declared.command.Cmd.TheVariants as cmd;
 ghost use Rattle.zr_command.specs.declared.command.Reply.{Reply};
@@ -48,8 +52,7 @@ pub fn effects_keep_pools_well_formed()
 pub fn a_transfer_may_have_read_its_source_earlier()
     ensures { (since : List Pools) (before earlier : Pools) (transfer : Transfer)
         → Contains since earlier →
-        first_that_applies (source_reasons earlier (cmd.Transfer transfer)) ≡ None →
-        first_that_applies (reasons before (cmd.Transfer transfer)) ≡ None →
+        refusal_since earlier before (cmd.Transfer transfer) ≡ None →
         Effect since before (cmd.Transfer transfer) extent.Whole
         (after_since earlier before (cmd.Transfer transfer)) (Ok reply.Nothing) }
 {}
@@ -65,4 +68,11 @@ pub fn a_listing_shows_what_stood_still()
     ensures alone { (before after : Pools) (rows : List SetRow) → IsWellFormed before →
         Effect [] before cmd.Sets extent.Whole after (Ok (reply.Sets rows))
         → rows ≡ map row_of_set before.sets }
+{}
+
+/// The token that a listing of the datasets shows for a partial receive is read as that partial receive.
+pub fn a_shown_token_is_read_back()
+    ensures { (partial : Partial) → IsName path_is_bad PATH_LIMIT partial.source →
+        partial.to.0 < 2 ^ 64 → IfSome partial.from (λ guid. guid.0 < 2 ^ 64) →
+        partial_of_token (token_text partial) ≡ Some partial }
 {}

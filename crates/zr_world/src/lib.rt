@@ -6,6 +6,7 @@ pub use effects::{ApplyFault, Extent, Refusal, apply};
 pub use mem::MemZfs;
 pub use planned::PlannedFailure;
 pub use pools::{Dataset, Partial, Pools, Version};
+pub use token::partial_of_token;
 pub use zfs::Zfs;
 pub use zr_command::{
     Answer, Base, Cmd, Entry, Names, NamesFault, Reply, SetRow, TokenInfo, Transfer, VersionName,
@@ -20,4 +21,5 @@ pub mod mem;
 pub mod planned;
 pub mod pools;
 mod reasons;
+pub mod token;
 pub mod zfs;

@@ -114,11 +114,11 @@ fn begin_entry(unit: &Unit, run: u64) -> Result<Entry, AllocError>
     Ok(Entry::Begin(unit.same()?, run))
 }
 
-fn call_entry(cmd: &Cmd, answer: &Answer) -> Result<Entry, AllocError>
+fn call_entry(alloc: Global, cmd: &Cmd, answer: &Answer) -> Result<Entry, AllocError>
     ensures { IfOk result (λ entry. entry ≡ Entry.Call (plain cmd.now) answer.now) }
 {
     let answer = answer.same()?;
-    match cmd.plain() {
+    match cmd.plain(alloc) {
         Ok(cmd) => Ok(Entry::Call(cmd, answer)),
         Err(fault) => {
             drop(answer);
@@ -139,7 +139,7 @@ fn push(history: &mut Vec<Entry>, entry: Entry) -> Result<(), NoMemory>
 fn recorded(history: &mut Vec<Entry>, cmd: &Cmd, answer: Answer) -> Answer
     ensures { Recorded history.old.items history.new.items (plain cmd.now) answer result }
 {
-    let Ok(entry) = call_entry(cmd, &answer) else {
+    let Ok(entry) = call_entry(*history.allocator(), cmd, &answer) else {
         drop(answer);
         return Answer::NoMemory;
     };

@@ -318,7 +318,7 @@ impl Pools {
     ghost use Rattle.std.specs.Prelude.{◌≡◌, IfOk};
     ghost use Rattle.std.specs.Option.{option_copied};
     ghost use Rattle.zr_world.specs.Effect.{first_receive_at, taken};
-    ghost use Rattle.zr_world.specs.Lookup.{dataset_at, parent_at, version_at};
+    ghost use Rattle.zr_world.specs.Lookup.{dataset_at, first_of_guid, parent_at, version_at, versions_at};
     ghost use Rattle.zr_command.specs.declared.version.VersionName.TheVariants.{Mark, Snap};
 
     /// The dataset at this path.
@@ -326,6 +326,25 @@ impl Pools {
         ensures { option_copied result ≡ dataset_at self.entry.now path.now }
     {
         self.sets.as_slice().iter().find(|set| set.path == *path)
+    }
+
+    /// The versions of the dataset at this path, none where it is not there.
+    pub fn versions<'a>(&'a self, path: &Path) -> &'a [Version]
+        ensures { result.now ≡ versions_at self.entry.now path.now }
+    {
+        match self.dataset(path) {
+            Some(set) => set.versions.as_slice(),
+            None => &[],
+        }
+    }
+
+    /// The first snapshot of this guid of the dataset at this path.
+    pub fn first_of_guid<'a>(&'a self, path: &Path, guid: Guid) -> Option<&'a Version>
+        ensures { option_copied result ≡ first_of_guid self.entry.now path.now guid }
+    {
+        self.versions(path)
+            .iter()
+            .find(|version| version.is_snapshot() && version.has_guid(guid))
     }
 
     /// The parent of a path. A path of one component has none.

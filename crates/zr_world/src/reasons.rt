@@ -1,20 +1,26 @@
 //! Why a command is refused: the table of refusals, each with its first reason that applies.
 
-ghost use Rattle.std.specs.Prelude.{◌≡◌, ◌∷◌, [], None, Some, false, is_none, not};
+ghost use Rattle.std.specs.Prelude.{◌≡◌, ◌∷◌, [], None, Some, false, is_none, not, ◌++◌, Bool, IfOk, List};
 ghost use Rattle.std.specs.List.{list_any};
+ghost use Rattle.zr_world.specs.declared.effects.Refusal.{Refusal as RefusalValue};
 ghost use Rattle.std.specs.Option.{option_copied, option_map_or};
 ghost use Rattle.zr_names.specs.Marks.{tag_text};
-ghost use Rattle.zr_world.specs.Lookup.{has_guid, tags_at, version_at};
+ghost use Rattle.zr_world.specs.Tokens.{partial_of_token};
+ghost use Rattle.zr_world.specs.Lookup.{dataset_at, has_guid, has_source, tags_at, version_at};
 ghost use Rattle.zr_command.specs.Names.{is_tagged, same_text};
-ghost use Rattle.zr_world.specs.Reasons.{first_that_applies, are_spent, full_reasons, increment_reasons, is_held, is_spent, is_there, reasons, refusal, source_reasons, target_reasons};
+ghost use Rattle.zr_world.specs.Reasons.{first_that_applies, are_spent, full_reasons, increment_reasons, is_held, is_spent, is_there, reasons, refusal, source_reasons, arrival_reasons, partial_reasons, transfer_reasons};
 ghost use Rattle.zr_command.specs.declared.command.Cmd.TheVariants as cmd;
 ghost use Rattle.zr_world.specs.declared.effects.Refusal.TheVariants.{Held, NoSuch, Spent};
 ghost use Rattle.zr_command.specs.declared.version.VersionName.TheVariants.{Snap};
 
 use crate::effects::Refusal;
 use crate::pools::{Dataset, Pools, Version};
+use crate::token::{is_shown, partial_of_token};
+use std::alloc::Global;
 use zr_command::{Base, Cmd, Transfer, VersionName};
-use zr_names::{Guid, JobName, MarkName, Path, SnapName, Tag, TagKind, is_tag};
+use zr_names::{
+    Guid, JobName, MarkName, NoMemory, Path, SnapName, Tag, TagKind, TokenText, is_tag,
+};
 
 /// Whether a tag is that of a job's holds of a kind.
 pub(crate) fn is_of(tag: &Tag, kind: TagKind, job: &JobName) -> bool
@@ -62,10 +68,27 @@ fn are_spent(pools: &Pools) -> bool
     is_spent(pools) || pools.next_guid == u64::MAX
 }
 
+/// Whether one of these versions has this guid.
+fn is_among(versions: &[Version], guid: Guid) -> bool
+    ensures { result ≡ list_any (has_guid guid) versions.now }
+{
+    versions.iter().any(|version| version.has_guid(guid))
+}
+
+/// Whether a version of this guid, if one is asked for, stands in the dataset at this path.
+fn has_source(pools: &Pools, path: &Path, from: Option<Guid>) -> bool
+    ensures { result ≡ has_source pools.entry.now path.now from }
+{
+    match from {
+        Some(guid) => is_among(pools.versions(path), guid),
+        None => true,
+    }
+}
+
 /// Why a sending end refuses.
 fn source_refusal(pools: &Pools, transfer: &Transfer) -> Option<Refusal>
-    ensures { result ≡ first_that_applies
-        (source_reasons pools.entry.now (cmd.Transfer transfer.now)) }
+    ensures { result ≡
+        first_that_applies (source_reasons pools.entry.now transfer.now transfer.now.base) }
 {
     if !has_guid(pools.snap(&transfer.source, &transfer.to), transfer.guid) {
         return Some(Refusal::NoSuch);
@@ -74,7 +97,10 @@ fn source_refusal(pools: &Pools, transfer: &Transfer) -> Option<Refusal>
         Base::From(mark, guid) if !has_guid(pools.mark(&transfer.source, mark), *guid) => {
             Some(Refusal::NoSuch)
         }
-        Base::Full | Base::From(_, _) => None,
+        Base::Resume(_, from) if !has_source(pools, &transfer.source, *from) => {
+            Some(Refusal::NoSuch)
+        }
+        Base::Full | Base::From(_, _) | Base::Resume(_, _) => None,
     }
 }
 
@@ -135,17 +161,110 @@ fn increment_refusal(
     spent_refusal(pools)
 }
 
-/// Why a receiving end refuses.
-fn target_refusal(pools: &Pools, transfer: &Transfer) -> Option<Refusal>
-    ensures { result ≡
-        first_that_applies (target_reasons pools.entry.now transfer.now transfer.now.base) }
+/// Why the target of a full receive refuses it.
+fn full_refusal(pools: &Pools, transfer: &Transfer) -> Option<Refusal>
+    ensures { result ≡ first_that_applies
+        (full_reasons pools.entry.now transfer.now
+        (dataset_at pools.entry.now transfer.now.target)) }
 {
-    match (&transfer.base, pools.dataset(&transfer.target)) {
-        (Base::Full, Some(set)) => forced_refusal(pools, transfer, set),
-        (Base::Full, None) => first_refusal(pools, transfer),
-        (Base::From(_, guid), Some(set)) => increment_refusal(pools, transfer, *guid, set),
-        (Base::From(_, _), None) => Some(Refusal::NoSuch),
+    match pools.dataset(&transfer.target) {
+        Some(set) => forced_refusal(pools, transfer, set),
+        None => first_refusal(pools, transfer),
     }
+}
+
+/// Why the target of an increment from a snapshot of this guid refuses it.
+fn onto_refusal(pools: &Pools, transfer: &Transfer, guid: Guid) -> Option<Refusal>
+    ensures { result ≡ first_that_applies
+        (increment_reasons pools.entry.now transfer.now guid
+        (dataset_at pools.entry.now transfer.now.target)) }
+{
+    match pools.dataset(&transfer.target) {
+        Some(set) => increment_refusal(pools, transfer, guid, set),
+        None => Some(Refusal::NoSuch),
+    }
+}
+
+/// Why the partial receive of a dataset is not that of a token.
+fn partial_refusal(
+    alloc: Global,
+    set: Option<&Dataset>,
+    token: &TokenText,
+) -> Result<Option<Refusal>, NoMemory>
+    ensures { IfOk result (λ why. why ≡
+        first_that_applies (partial_reasons token.now (option_copied set.entry))) }
+{
+    let Some(set) = set else {
+        return Ok(Some(Refusal::NoSuch));
+    };
+    let Some(partial) = &set.partial else {
+        return Ok(Some(Refusal::NoPartial));
+    };
+    if is_shown(alloc, partial, token)? {
+        Ok(None)
+    } else {
+        Ok(Some(Refusal::NotNewest))
+    }
+}
+
+/// Why a snapshot cannot arrive where nothing else is wrong.
+fn arrival_refusal(pools: &Pools, transfer: &Transfer) -> Option<Refusal>
+    ensures { result ≡ first_that_applies (arrival_reasons pools.entry.now transfer.now) }
+{
+    if pools.snap(&transfer.target, &transfer.to).is_some() {
+        return Some(Refusal::Exists);
+    }
+    spent_refusal(pools)
+}
+
+/// Why a sending end refuses, and then for this reason.
+#[tactic(auto, using(crate::proofs::Firsts::refused_first, crate::proofs::Firsts::refused_behind))]
+fn behind_source(pools: &Pools, transfer: &Transfer, then: Option<Refusal>) -> Option<Refusal>
+    ensures { (more : List (Bool × RefusalValue)) → then ≡ first_that_applies more → result ≡
+        first_that_applies (source_reasons pools.entry.now transfer.now transfer.now.base ++ more) }
+{
+    match source_refusal(pools, transfer) {
+        Some(why) => Some(why),
+        None => then,
+    }
+}
+
+/// Why a transfer is refused.
+fn transfer_refusal(
+    alloc: Global,
+    pools: &Pools,
+    transfer: &Transfer,
+) -> Result<Option<Refusal>, NoMemory>
+    ensures { IfOk result (λ why. why ≡ first_that_applies
+        (transfer_reasons pools.entry.now pools.entry.now transfer.now transfer.now.base)) }
+{
+    match &transfer.base {
+        Base::Full => {
+            let then = full_refusal(pools, transfer);
+            Ok(behind_source(pools, transfer, then))
+        }
+        Base::From(_, guid) => {
+            let then = onto_refusal(pools, transfer, *guid);
+            Ok(behind_source(pools, transfer, then))
+        }
+        Base::Resume(token, _) => {
+            match partial_refusal(alloc, pools.dataset(&transfer.target), token)? {
+                Some(why) => Ok(Some(why)),
+                None => {
+                    let then = arrival_refusal(pools, transfer);
+                    Ok(behind_source(pools, transfer, then))
+                }
+            }
+        }
+    }
+}
+
+/// Why what a token says is not listed.
+fn token_refusal(alloc: Global, token: &TokenText) -> Result<Option<Refusal>, NoMemory>
+    ensures { IfOk result (λ why. why ≡
+        first_that_applies ((is_none (partial_of_token token.now), NoSuch) ∷ [])) }
+{
+    Ok(unless_there(partial_of_token(alloc, token)?.is_some()))
 }
 
 /// Refuses what is not there.
@@ -181,7 +300,8 @@ fn bookmark_refusal(
     mark: &MarkName,
 ) -> Option<Refusal>
     ensures { result ≡
-        first_that_applies (reasons pools.entry.now (cmd.Bookmark path.now version.now mark.now)) }
+        first_that_applies (reasons pools.entry.now pools.entry.now
+        (cmd.Bookmark path.now version.now mark.now)) }
 {
     if pools.version(path, version).is_none() {
         return Some(Refusal::NoSuch);
@@ -195,7 +315,8 @@ fn bookmark_refusal(
 /// Why a snapshot is not taken.
 fn snapshot_refusal(pools: &Pools, path: &Path, name: &SnapName) -> Option<Refusal>
     ensures { result ≡
-        first_that_applies (reasons pools.entry.now (cmd.Snapshot path.now name.now)) }
+        first_that_applies (reasons pools.entry.now pools.entry.now
+        (cmd.Snapshot path.now name.now)) }
 {
     if pools.dataset(path).is_none() {
         return Some(Refusal::NoSuch);
@@ -212,7 +333,8 @@ fn snapshot_refusal(pools: &Pools, path: &Path, name: &SnapName) -> Option<Refus
 
 /// Why a placeholder is not made.
 fn create_refusal(pools: &Pools, path: &Path) -> Option<Refusal>
-    ensures { result ≡ first_that_applies (reasons pools.entry.now (cmd.Create path.now)) }
+    ensures { result ≡ first_that_applies
+        (reasons pools.entry.now pools.entry.now (cmd.Create path.now)) }
 {
     if pools.dataset(path).is_some() {
         return Some(Refusal::Exists);
@@ -229,7 +351,8 @@ fn create_refusal(pools: &Pools, path: &Path) -> Option<Refusal>
 
 /// Why an abort is refused.
 fn abort_refusal(pools: &Pools, path: &Path) -> Option<Refusal>
-    ensures { result ≡ first_that_applies (reasons pools.entry.now (cmd.Abort path.now)) }
+    ensures { result ≡ first_that_applies
+        (reasons pools.entry.now pools.entry.now (cmd.Abort path.now)) }
 {
     match pools.dataset(path) {
         None => Some(Refusal::NoSuch),
@@ -271,13 +394,14 @@ fn destroy_refusal(pools: &Pools, path: &Path, names: &[SnapName]) -> Option<Ref
 }
 
 /// Why a command is refused, the first reason that applies.
-pub(crate) fn refusal(pools: &Pools, cmd: &Cmd) -> Option<Refusal>
-    ensures { result ≡ refusal pools.entry.now cmd.now }
+pub(crate) fn refusal(alloc: Global, pools: &Pools, cmd: &Cmd) -> Result<Option<Refusal>, NoMemory>
+    ensures { IfOk result (λ why. why ≡ refusal pools.entry.now cmd.now) }
 {
-    match cmd {
+    let why = match cmd {
         Cmd::Sets => None,
         Cmd::Versions(path) => unless_there(pools.dataset(path).is_some()),
         Cmd::Holds(path, name) => unless_there(pools.snap(path, name).is_some()),
+        Cmd::Token(token) => token_refusal(alloc, token)?,
         Cmd::Snapshot(path, name) => snapshot_refusal(pools, path, name),
         Cmd::Hold(kind, job, path, name) => {
             let held = is_tagged(tags_at(pools, path, name), *kind, job);
@@ -291,9 +415,8 @@ pub(crate) fn refusal(pools: &Pools, cmd: &Cmd) -> Option<Refusal>
         Cmd::DestroySnaps(path, names) => destroy_refusal(pools, path, names.as_slice()),
         Cmd::DestroyMark(path, mark) => unless_there(pools.mark(path, mark).is_some()),
         Cmd::Create(path) => create_refusal(pools, path),
-        Cmd::Transfer(transfer) => {
-            source_refusal(pools, transfer).or_else(|| target_refusal(pools, transfer))
-        }
+        Cmd::Transfer(transfer) => transfer_refusal(alloc, pools, transfer)?,
         Cmd::Abort(path) => abort_refusal(pools, path),
-    }
+    };
+    Ok(why)
 }

@@ -28,6 +28,9 @@ create -o zrepl:placeholder=on -o mountpoint=none b/c => create b/c
 # abort_is_receive_minus_A
 receive -A b/c/tank/a => abort b/c/tank/a
 build abort b/c/tank/a => /sbin/zfs receive -A b/c/tank/a
+# words of a listing of a token, and of a send by it
+send -nvt 1-0b-x => token 1-0b-x
+send -t 1-0b-x => send by 1-0b-x
 # words of bookmarks
 bookmark tank/home@s tank/home#n => bookmark tank/home @s #n
 bookmark tank/home#m tank/home#n => bookmark tank/home #m #n
@@ -37,6 +40,8 @@ build versions tank/home => /sbin/zfs list -H -p -d 1 -t snapshot,bookmark -s cr
 build holds tank/home z_1 => /sbin/zfs holds -H tank/home@z_1
 build hold tank/home z_1 step nightly => /sbin/zfs hold zrepl_STEP_J_nightly tank/home@z_1
 build release tank/home z_1 last nightly => /sbin/zfs release zrepl_last_received_J_nightly tank/home@z_1
+build token 1-0b-x => /sbin/zfs send -nvt 1-0b-x
+build send tank/home z_2 9 resume 1-0b-x none backup/home => /sbin/zfs send -t 1-0b-x | /sbin/zfs receive -s -u backup/home
 build snapshot tank/home z_1 => /sbin/zfs snapshot tank/home@z_1
 build create b/c => /sbin/zfs create -o zrepl:placeholder=on -o mountpoint=none b/c
 build destroy tank/home @z_1 => /sbin/zfs destroy tank/home@z_1
@@ -135,6 +140,13 @@ send => bad word 1
 send a => bad word 1
 send a#m => bad word 1
 send a@s b@s => bad word 2
+send -t => bad word 2
+send -t - => bad word 2
+send -t a b => bad word 3
+send -nvt => bad word 2
+send -nvt - => bad word 2
+send -nvt a b => bad word 3
+send -nv a => bad word 1
 send -i => bad word 2
 send -i a@r a@s => bad word 2
 send -i a#m => bad word 3
@@ -278,6 +290,7 @@ fn cmd_text(alloc: Global, cmd: &Cmd) -> Result<String, Unread> {
         Cmd::Snapshot(set, snap) => named(alloc, "snapshot", set, '@', snap.as_bytes()),
         Cmd::DestroySnaps(set, names) => group_text(alloc, set, names.as_slice()),
         Cmd::DestroyMark(set, mark) => named(alloc, "destroy", set, '#', mark.as_bytes()),
+        Cmd::Token(token) => Ok(format!(in alloc; "token {}", shown(token.as_bytes()))?),
         Cmd::Create(set) => Ok(format!(in alloc; "create {}", shown(set.as_bytes()))?),
         Cmd::Abort(set) => Ok(format!(in alloc; "abort {}", shown(set.as_bytes()))?),
         _ => change_text(alloc, cmd),
@@ -300,6 +313,9 @@ fn call_text(alloc: Global, call: &ZfsCall, line: &str) -> Result<String, Unread
         ZfsCall::SendFrom(set, mark, snap) => {
             let (from, to) = (('#', mark.as_bytes()), ('@', snap.as_bytes()));
             twice_named(alloc, ("send", set), from, to)
+        }
+        ZfsCall::SendToken(token) => {
+            Ok(format!(in alloc; "send by {}", shown(token.as_bytes()))?)
         }
         ZfsCall::Receive(set, force) => {
             let how = if *force { " by force" } else { "" };

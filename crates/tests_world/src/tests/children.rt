@@ -52,6 +52,29 @@ now 200 txg 50 guid 50;tank @a:11:11:100 #m:11:11:100 @b:12:12:100[zrepl_last];t
 4 told, the last zfs holds -H tank@c: nonzero []
 =
 
+what_a_token_says_is_written_and_its_status_says_whether_its_source_has_the_snapshot
+now 200 txg 50 guid 50;back;back/tank partial 11 none tank;tank @a:11:11:100 @b:12:12:100 #c:13:13:100;
+  zfs send -nvt 1-000000000000000b-none-tank => done [resume token contents:$~toguid = 0xb$], told zfs send -nvt 1-000000000000000b-none-tank: done [resume token contents:$~toguid = 0xb$]
+  zfs send -nvt 1-000000000000000c-0000000000000063-tank => done [resume token contents:$~fromguid = 0x63$~toguid = 0xc$], told zfs send -nvt 1-000000000000000c-0000000000000063-tank: done [resume token contents:$~fromguid = 0x63$~toguid = 0xc$]
+  zfs send -nvt 1-000000000000000d-000000000000000b-tank => nonzero [resume token contents:$~fromguid = 0xb$~toguid = 0xd$], told zfs send -nvt 1-000000000000000d-000000000000000b-tank: nonzero [resume token contents:$~fromguid = 0xb$~toguid = 0xd$]
+  zfs send -nvt 1-000000000000000b-none-none => nonzero [resume token contents:$~toguid = 0xb$], told zfs send -nvt 1-000000000000000b-none-none: nonzero [resume token contents:$~toguid = 0xb$]
+  zfs send -nvt x => nonzero [], told zfs send -nvt x: nonzero []
+  zfs send -t 1-000000000000000b-none-tank => nonzero [], told zfs send -t 1-000000000000000b-none-tank: nonzero []
+6 told, the last zfs send -t 1-000000000000000b-none-tank: nonzero []
+=
+
+resumes_by_their_words: of two snapshots with the guid of the token the first is sent
+now 200 txg 50 guid 50;back;back/first partial 11 none tank;back/tank partial 12 11 tank @a:11:40:100;tank @a:11:11:100 @b:12:12:100 @c:12:13:100;
+  zfs send -t x | zfs receive -s -u back/tank => failed, told zfs send -t x | zfs receive -s -u back/tank: failed
+  zfs send -t 1-000000000000000b-none-tank | zfs receive -s -u back/tank => failed, told zfs send -t 1-000000000000000b-none-tank | zfs receive -s -u back/tank: failed
+  zfs send -t 1-000000000000000c-000000000000000b-tank | zfs receive -s -u back/first => failed, told zfs send -t 1-000000000000000c-000000000000000b-tank | zfs receive -s -u back/first: failed
+  zfs send -t 1-000000000000000c-000000000000000b-none | zfs receive -s -u back/tank => failed, told zfs send -t 1-000000000000000c-000000000000000b-none | zfs receive -s -u back/tank: failed
+  zfs send -t 1-000000000000000b-none-tank | zfs receive -s -u back => failed, told zfs send -t 1-000000000000000b-none-tank | zfs receive -s -u back: failed
+  zfs send -t 1-000000000000000c-000000000000000b-tank | zfs receive -s -u back/tank => done, told zfs send -t 1-000000000000000c-000000000000000b-tank | zfs receive -s -u back/tank: done
+  zfs send -t 1-000000000000000c-000000000000000b-tank | zfs receive -s -u back/tank => failed, told zfs send -t 1-000000000000000c-000000000000000b-tank | zfs receive -s -u back/tank: failed
+7 told, the last zfs send -t 1-000000000000000c-000000000000000b-tank | zfs receive -s -u back/tank: failed
+now 200 txg 51 guid 50;=;=;back/tank @a:11:40:100 @b:12:50:100;=;
+
 words_of_no_command_do_nothing
 now 200 txg 50 guid 50;tank @a:11:11:100 #a:11:11:100 @b:12:12:100[zrepl_last];tank/x placeholder;
   zfs get => nonzero [], told zfs get: nonzero []

@@ -137,6 +137,25 @@ now 200 txg 50 guid 50;back;tank @a:11:11:100 @b:12:12:100;
 2 told, the last zfs list -H -p -d 1 -t snapshot,bookmark -s createtxg -o name,guid,createtxg,creation,userrefs back/tank: done [back/tank@a~11~50~100~0$]
 now 200 txg 51 guid 50;=;back/tank @a:11:50:100;=;
 
+what_a_token_says_is_listed_and_its_receive_is_resumed
+now 200 txg 50 guid 50;back;tank @a:11:11:100 @b:12:12:100;
+  part send tank a 11 full back/tank => failed
+  token 1-000000000000000b-none-tank => to 11 in full
+  part send tank a 11 resume 1-000000000000000b-none-tank none back/tank => failed
+  send tank a 11 resume 1-000000000000000b-none-tank none back/tank => done
+  token x => failed
+5 told, the last zfs send -nvt x: nonzero []
+now 200 txg 51 guid 50;=;back/tank @a:11:50:100;=;
+
+what_a_token_says_is_listed_where_its_source_is_gone
+now 200 txg 50 guid 50;back;tank @a:11:11:100 @b:12:12:100;
+  part send tank a 11 full back/tank => failed
+  destroy tank @a => done
+  token 1-000000000000000b-none-tank => to 11 in full
+  send tank a 11 resume 1-000000000000000b-none-tank none back/tank => failed
+4 told, the last zfs send -t 1-000000000000000b-none-tank | zfs receive -s -u back/tank: failed
+=;=;back/tank partial 11 none tank;tank @b:12:12:100;
+
 a_pipe_counts_as_one_call
 now 200 txg 50 guid 50;back;tank @a:11:11:100 @b:12:12:100;
   send tank a 11 full back/tank => done

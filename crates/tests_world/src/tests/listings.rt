@@ -70,6 +70,38 @@ nomemory
   versions tank => no memory
   holds tank a => no memory
 
+contents_of_a_token_by_end
+done resume token contents:$nvlist version: 0$~object = 0x6$~toguid = 0x13$~toname = tank/a@s3$
+  token 1-000000000000000b-none-tank => to 19 in full
+
+contents_of_a_token_by_end: another status
+nonzero resume token contents:$~fromguid = 0xA$~toguid = 0x13$
+  token 1-000000000000000b-none-tank => to 19 from 10
+
+contents_of_a_token_by_end: they are bad
+done ~toguid = 0x13$~toguid = 0x14$
+  token 1-000000000000000b-none-tank => garbled 2
+
+contents_of_a_token_by_end: they are bad, with another status
+nonzero ~toguid = 0x13$~toguid = 0x14$
+  token 1-000000000000000b-none-tank => failed
+
+contents_of_a_token_by_end: nothing is written
+done
+  token 1-000000000000000b-none-tank => garbled 1
+
+contents_of_a_token_by_end: nothing is written, with another status
+nonzero
+  token 1-000000000000000b-none-tank => failed
+
+contents_of_a_token_by_end: the child is killed
+failed ~toguid = 0x13$
+  token 1-000000000000000b-none-tank => failed
+
+contents_of_a_token_by_end: memory is refused
+nomemory ~toguid = 0x13$
+  token 1-000000000000000b-none-tank => no memory
+
 other_commands_by_end
 done any bytes
   hold tank a step j => done

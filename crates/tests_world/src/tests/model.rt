@@ -101,6 +101,49 @@ now 9000 txg 100 guid 500;back;back/first partial 11 none tank;
   create back/none/new => NoSuch =
   create back/first/new => HasPartial =
 
+a_token_says_which_guids_its_stream_has
+now 9000 txg 18446744073709551615 guid 500;back placeholder partial 11 none tank;
+  token 1-000000000000000b-none-tank => done = / done = / to 11 in full =
+  token 1-000000000000000d-000000000000000c-tank => done = / done = / to 13 from 12 =
+  token 1-00000000000000ff-00000000000abcde-none/x => done = / done = / to 255 from 703710 =
+
+what_is_no_token_of_the_model_is_refused
+now 9000 txg 100 guid 500;back placeholder partial 11 none tank;
+  token x => NoSuch =
+  token 1- => NoSuch =
+  token 2-000000000000000b-none-tank => NoSuch =
+  token 1-000000000000000B-none-tank => NoSuch =
+  token 1-00000000000000b-none-tank => NoSuch =
+  token 1-000000000000000b-nope-tank => NoSuch =
+  token 1-000000000000000b-000000000000000g-tank => NoSuch =
+  token 1-000000000000000b-none-tank/ => NoSuch =
+  token 1-000000000000000b-none- => NoSuch =
+  token 1-zzzzzzzzzzzzzzzz-none-tank => NoSuch =
+
+a_resume_completes_its_partial_receive
+now 9000 txg 100 guid 500;back placeholder partial 11 none tank;back/cut partial 13 12 tank @b:12:30:1012;
+  send tank a 11 resume 1-000000000000000b-none-tank none back => done = / done = / done now 9000 txg 101 guid 500;back placeholder @a:11:100:1011;=;=;
+  send tank c 13 resume 1-000000000000000d-000000000000000c-tank 12 back/cut => done = / done = / done now 9000 txg 101 guid 500;=;back/cut @b:12:30:1012 @c:13:100:1013;=;
+  send tank c 13 resume 1-000000000000000d-000000000000000c-tank 12 back/cut force => done = / done = / done now 9000 txg 101 guid 500;=;back/cut @b:12:30:1012 @c:13:100:1013;=;
+
+resumes_are_refused_for_the_first_reason
+now 9000 txg 100 guid 500;back placeholder;back/cut partial 13 12 tank @b:12:30:1012;back/first partial 11 none tank;back/twice partial 13 12 tank @c:99:31:1099;
+  send none z 11 resume 1-000000000000000b-none-tank none back/none => NoSuch =
+  send none z 11 resume 1-000000000000000b-none-tank none back => NoPartial =
+  send none z 13 resume 1-000000000000000b-none-tank none back/cut => NotNewest =
+  send tank a 11 resume 1-000000000000000d-000000000000000c-tank 12 back/first => NotNewest =
+  send none c 13 resume 1-000000000000000d-000000000000000c-tank 12 back/cut => NoSuch =
+  send tank z 13 resume 1-000000000000000d-000000000000000c-tank 12 back/cut => NoSuch =
+  send tank c 12 resume 1-000000000000000d-000000000000000c-tank 12 back/cut => NoSuch =
+  send tank c 13 resume 1-000000000000000d-000000000000000c-tank 99 back/twice => NoSuch =
+  send tank c 13 resume 1-000000000000000d-000000000000000c-tank 12 back/twice => Exists =
+
+resumes_are_refused_at_the_last_transaction_group
+now 9000 txg 18446744073709551615 guid 500;back placeholder;back/cut partial 13 12 tank @b:12:30:1012;back/twice partial 13 12 tank @c:99:31:1099;
+  send tank z 13 resume 1-000000000000000d-000000000000000c-tank 12 back/cut => NoSuch =
+  send tank c 13 resume 1-000000000000000d-000000000000000c-tank 12 back/twice => Exists =
+  send tank c 13 resume 1-000000000000000d-000000000000000c-tank 12 back/cut => Spent =
+
 an_abort_takes_the_partial_receive
 now 9000 txg 18446744073709551615 guid 18446744073709551615;back/cut partial 12 11 tank @a:11:30:1011;back/first partial 11 none tank #m:11:40:1011;back/place placeholder partial 11 none tank;
   abort back/cut => done = / done = / done =;back/cut @a:11:30:1011;=;=;=;

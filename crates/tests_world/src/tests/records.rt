@@ -82,6 +82,10 @@ now 9000 txg 100 guid 500;tank @a:11:1:1011;
   part send tank a 11 full tank/cut => failed =;=;tank/cut partial 11 none tank; 1: send tank a of guid 0 in full to tank/cut
   send tank a 11 full tank/new => done now 9000 txg 101 guid 500;=;tank/cut partial 11 none tank;tank/new @a:11:100:1011; 2: send tank a of guid 0 in full to tank/new
 
+a_resume_stands_there_without_its_source_and_snapshot
+now 9000 txg 100 guid 500;tank @a:11:1:1011;tank/cut partial 11 none tank;
+  send tank a 11 resume 1-000000000000000b-none-tank none tank/cut => done now 9000 txg 101 guid 500;=;tank/cut @a:11:100:1011; 1: send - - of guid 0 by a token to tank/cut
+
 a_begun_run_has_its_number
 now 9000 txg 100 guid 500;tank @a:11:1:1011;
   begin 7 => begun = 1: run 7 of a scan of job 3 at 1000";
@@ -94,6 +98,7 @@ fn transfer_text(alloc: Global, transfer: &Transfer) -> Option<String> {
     let base = match transfer.base {
         Base::Full => "in full",
         Base::From(_, _) => "from a bookmark",
+        Base::Resume(_, _) => "by a token",
     };
     format!(in alloc; "send {source} {to} of guid {guid} {base} to {target}").ok()
 }

@@ -12,5 +12,8 @@ returns-in-Mark c = rw c.in-Mark.is c.is_full-in-Mark.ensures
 pub returns-in-Tag : goal.returns-in-Tag
 returns-in-Tag c = rw c.in-Tag.is c.is_job_tag.ensures
 
+pub returns-in-Token : goal.returns-in-Token
+returns-in-Token c = rw c.in-Token.is c.is_token.ensures
+
 pub returns-in-Group : goal.returns-in-Group
 returns-in-Group c = rw c.in-Group.is c.is_full_group.ensures
