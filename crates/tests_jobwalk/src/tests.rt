@@ -1,0 +1,2 @@
+//! One module for the tables of a job.
+mod tables;

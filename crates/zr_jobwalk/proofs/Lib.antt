@@ -1,0 +1,5 @@
+pub mod Trees
+pub mod Strangers
+pub mod NoTexts
+pub mod BadTexts
+pub mod InnerTables
