@@ -2,3 +2,4 @@ pub mod Pairs
 pub mod Patterns
 pub mod Shapes
 pub mod Documents
+pub mod Plain

@@ -6,7 +6,7 @@ use Rattle.zr_names.specs.Names.{IsName, name_is_bad}
 use Rattle.zr_filter.specs.declared.entry.FilterEntry.{FilterEntry}
 use Rattle.zr_filter.specs.Patterns.{ReadsPattern}
 use Rattle.zr_jobs.specs.declared.job.JobSet.{JobSet}
-use Rattle.zr_jobs.specs.declared.job.RuleSpec.TheVariants.{LastN}
+use Rattle.zr_rules.specs.declared.rule.RuleSpec.TheVariants.{LastN}
 use Rattle.zr_jobfile.specs.Trees.{filter_tree, job_end, only, type_end}
 
 -- `{ type = "last_n", count = COUNT }`
@@ -42,7 +42,7 @@ one_job name entry count = record {
       record {
         name = name;
         filter = record { entries = entry ∷ [] };
-        keep_source = LastN count ∷ [];
+        keep_source = LastN count None ∷ [];
         destination = None;
       } ∷ [];
 }

@@ -14,8 +14,9 @@ use crate::snap_shape::file_parts;
 use std::alloc::{AllocError, Global};
 use toml::Table;
 use zr_filter::{Filter, FilterEntry, reaches, read_pattern};
-use zr_jobs::{Destination, Identity, IdentityFault, Job, JobSet, RuleSpec, read_identity};
+use zr_jobs::{Destination, Identity, IdentityFault, Job, JobSet, read_identity};
 use zr_names::{JobName, NameFault, Path, Rows, read_job, read_path};
+use zr_rules::RuleSpec;
 
 fn job_name(alloc: Global, text: &str) -> Result<JobName, JobFault>
     ensures { Names (IsName name_is_bad JOB_LIMIT) text.now result }
@@ -71,7 +72,7 @@ fn one_job(
     entries.push(entry)?;
     let filter = Filter { entries };
     let mut keep_source = Rows::new(alloc);
-    keep_source.push(RuleSpec::LastN { count })?;
+    keep_source.push(RuleSpec::LastN { count, regex: None })?;
     let mut jobs = Rows::new(alloc);
     jobs.push(Job {
         name,

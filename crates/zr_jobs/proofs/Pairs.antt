@@ -11,7 +11,7 @@ use Rattle.zr_jobs.specs.declared.target.Destination.{Destination}
 use Rattle.zr_jobs.specs.Targets.{root_of, target_text}
 use Rattle.zr_jobs.specs.declared.job.Job.{Job}
 use Rattle.zr_jobs.specs.declared.job.JobSet.{JobSet}
-use Rattle.zr_jobs.specs.declared.job.RuleSpec.{RuleSpec}
+use Rattle.zr_rules.specs.declared.rule.RuleSpec.{RuleSpec}
 use Rattle.zr_jobs.specs.declared.pair.Pair.{Pair}
 use Rattle.zr_jobs.specs.Jobs.{destination_of, fits_in, IsOfFile, IsScanned, IsWorkOf, job_at, matched, matches_in, pair_in, pair_of, prunings, replications, rules_of, takes, units_at, UnitsOf}
 

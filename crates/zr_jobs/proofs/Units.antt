@@ -16,7 +16,7 @@ use Rattle.zr_command.specs.declared.version.SetRow.{SetRow}
 use Rattle.zr_jobs.specs.declared.target.Destination.{Destination}
 use Rattle.zr_jobs.specs.declared.job.Job.{Job}
 use Rattle.zr_jobs.specs.declared.job.JobSet.{JobSet}
-use Rattle.zr_jobs.specs.declared.job.RuleSpec.{RuleSpec}
+use Rattle.zr_rules.specs.declared.rule.RuleSpec.{RuleSpec}
 use Rattle.zr_jobs.specs.Jobs.{destination_of, fits_in, gives, IsOfFile, IsScanned, IsWorkOf, job_at, matched, matches_in, prunings, replications, rules_of, takes, units_at, UnitsOf}
 use Rattle.zr_jobs.proofs.Pairs.{units-all}
 

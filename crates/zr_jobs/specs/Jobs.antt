@@ -1,4 +1,4 @@
-use Rattle.std.specs.Prelude.{⊤, ◌≡◌, ◌&&◌, ℕ, ◌<◌, Bool, true, false, List, [], ◌∷◌, ◌++◌, Option, Some, None, is_some, nat_le, nat_lt, Contains, IsPermutation, filter, map, flat_map, length, slice_get}
+use Rattle.std.specs.Prelude.{⊤, ◌≡◌, ◌&&◌, ℕ, ◌<◌, Bool, true, false, List, [], ◌∷◌, ◌++◌, Option, Some, None, is_some, All, nat_le, nat_lt, Contains, IsPermutation, filter, map, flat_map, length, slice_get}
 use Rattle.std.specs.List.Sorted.{IsSorted}
 use Rattle.std.specs.Ordering.{nat_cmp}
 use Rattle.std.specs.Cmp.Lexicographic.{slice_cmp}
@@ -12,17 +12,36 @@ use Rattle.zr_jobs.specs.declared.pair.Pair.{Pair}
 use Rattle.zr_jobs.specs.declared.job.Job.{Job}
 use Rattle.zr_jobs.specs.declared.job.JobSet.{JobSet}
 use Rattle.zr_filter.specs.Rule.{matches}
-use Rattle.zr_jobs.specs.declared.job.RuleSpec.{RuleSpec}
+use Rattle.zr_rules.specs.declared.rule.RuleSpec.{RuleSpec}
+use Rattle.zr_rules.specs.Specs.{HasGrid, pattern_in}
 use Rattle.zr_jobs.specs.declared.target.TheConstants.{LONGEST_PATH}
 
 -- the job of this number
 abbrev pub job_at : JobSet → ℕ → Option Job
 job_at jobs number = slice_get jobs.jobs number
 
+-- a job's name
+abbrev pub name_of : Option Job → List ℕ
+name_of None = []
+name_of (Some job) = job.name
+
 -- the rules by which a job's source snapshots are kept
 abbrev pub rules_of : Option Job → List RuleSpec
 rules_of None = []
 rules_of (Some job) = job.keep_source
+
+-- the rules of each job
+abbrev pub all_rules : JobSet → List (List RuleSpec)
+all_rules jobs = map (λ (job : Job). job.keep_source) jobs.jobs
+
+-- a rule without a pattern, whose grid, if it has one, `read_grid` can give
+pub record IsPlain (rule : RuleSpec) : Type 0 where
+  pub no_pattern : pattern_in rule ≡ None
+  pub grid : HasGrid rule
+
+-- all rules of all jobs are plain
+abbrev pub ArePlain : JobSet → Type 0
+ArePlain jobs = All (All IsPlain) (all_rules jobs)
 
 -- a job's filter
 abbrev pub matches_in : Option Job → List ℕ → Bool

@@ -12,13 +12,7 @@ use crate::target::{Destination, LONGEST_PATH, TargetFault, target_length, targe
 use std::alloc::Global;
 use zr_filter::{Filter, matches};
 use zr_names::{JobName, NoMemory, Path, Rows, Same, Unit, Work};
-
-/// A rule that keeps snapshots (zrepl's documentation, "Pruning Policies").
-#[derive(Clone, Copy, PartialEq, Eq)]
-pub enum RuleSpec {
-    /// Keeps the newest `count` snapshots.
-    LastN { count: u32 },
-}
+use zr_rules::RuleSpec;
 
 /// A job that works on the datasets that its filter matches: it prunes their snapshots, and replicates them where
 /// it has a destination.

@@ -2,7 +2,7 @@
 #![tactic(auto)]
 
 pub use identity::{Identity, IdentityFault, read_identity};
-pub use job::{Job, JobSet, RuleSpec};
+pub use job::{Job, JobSet};
 pub use pair::Pair;
 pub use target::{Destination, LONGEST_PATH, TargetFault, target_length, target_of};
 

@@ -1,4 +1,4 @@
-use Rattle.std.proofs.Common.{◌≡◌, ◌∙◌, ◌==◌, ◌&&◌, ℕ, ◌<◌, Bool, true, false, not, List, [], ◌∷◌, ◌++◌, Option, Some, None, ap, append-nil, append_assoc, arith, get_or, inl, inr, length, nat_eq, refl, subst, sym}
+use Rattle.std.proofs.Common.{◌≡◌, ◌∙◌, ◌==◌, ◌&&◌, ℕ, ◌+◌, ◌<◌, Bool, true, false, not, List, [], ◌∷◌, ◌++◌, Option, Some, None, ap, append-nil, append_assoc, arith, get_or, inl, inr, length, length-append, nat_eq, refl, subst, sym}
 use Rattle.std.specs.Bool.{if◌then◌else◌}
 use Rattle.std.specs.Cmp.Lexicographic.{pointwise}
 use Rattle.std.specs.List.{All, Contains}
@@ -10,15 +10,18 @@ use Rattle.zr_names.specs.declared.unit.Work.TheVariants as work
 use Rattle.zr_command.specs.declared.command.Answer.TheVariants as answer
 use Rattle.zr_command.specs.declared.command.Cmd.TheVariants as cmd
 use Rattle.zr_command.specs.declared.command.Reply.TheVariants as reply
-use Rattle.zr_command.specs.declared.version.VersionName.{VersionName}
-use Rattle.zr_command.specs.declared.version.VersionName.TheVariants.{Snap, Mark}
+use Rattle.zr_command.specs.declared.version.VersionName.TheVariants.{Snap}
 use Rattle.zr_command.specs.declared.version.VersionRow.{VersionRow}
 use Rattle.zr_jobs.specs.declared.job.JobSet.{JobSet}
-use Rattle.zr_jobs.specs.declared.job.RuleSpec.{RuleSpec}
+use Rattle.zr_rules.specs.declared.rule.RuleSpec.{RuleSpec}
+use Rattle.zr_rules.specs.Keeps.{retained}
 use Rattle.zr_permit.specs.Honest.{IsHonest, MayGo, rules_by, WasListed}
-use Rattle.zr_jobs.specs.Jobs.{job_at, pair_of, rules_of}
+use Rattle.zr_jobs.specs.Jobs.{job_at, name_of, pair_of, rules_of}
 use Rattle.zr_jobs.specs.declared.pair.Pair.{Pair}
-use Rattle.zr_permit.specs.Keep.{doomed, going, going_from, retained}
+use Rattle.zr_permit.specs.Keep.{cursor_txg, doomed, going_from, gone, rule_row, snaps_of, text_of}
+use Rattle.zr_permit.proofs.Dooming.{snap-named}
+use Rattle.zr_permit.proofs.Snaps.{snaps-more, snaps-same}
+use Rattle.zr_command.specs.Kinds.{is_snap}
 use Rattle.zr_permit.specs.Transcript.{Allowed, doomed_in, Legal, LegalAfter, later_of, listed, Permits, rows_told, Transcript, Turn, Replicates}
 
 no-element : {X : Type 0} (x : X) → Contains [] x → ⊥
@@ -69,11 +72,14 @@ listed-turn path (turn ∷ turns) rows e = choose (listed path turns) refl (list
   choose (Some told) some in_rest e = Contains-append_right (turn ∷ []) turns _ (in_rest (some ∙ e))
 
 -- a snapshot that one row gives up
-going-may : (rules : List RuleSpec) (rows earlier : List VersionRow) (row : VersionRow) (later : List VersionRow) (name : List ℕ) → 0 < length rules → rows ≡ earlier ++ row ∷ later → Contains (going rules rows row later row.name) name → MayGo rules rows name
-going-may rules rows earlier row later name some is within = choose row.name refl within where
-  pick : (snap : List ℕ) → row.name ≡ Snap snap → (b : Bool) → (row.refs == 0) && not (retained rules rows row later) ≡ b → Contains (if b then snap ∷ [] else []) name → MayGo rules rows name
-  pick snap named true goes within =
-      elim (Contains-push_cases [] snap name within) [
+gone-may : (job : List ℕ) (rules : List RuleSpec) (rows earlier : List VersionRow) (row : VersionRow) (later : List VersionRow) (name : List ℕ) → 0 < length rules → rows ≡ earlier ++ row ∷ later → is_snap row ≡ true → Contains (gone (retained rules (snaps_of rows) (cursor_txg job rows) (length (snaps_of earlier)) (rule_row row)) row) name → MayGo job rules rows name
+gone-may job rules rows earlier row later name some is snap within = choose ((row.refs == 0) && not kept) refl within where
+  kept : Bool
+  kept = retained rules (snaps_of rows) (cursor_txg job rows) (length (snaps_of earlier)) (rule_row row)
+
+  choose : (b : Bool) → (row.refs == 0) && not kept ≡ b → Contains (if b then text_of row.name ∷ [] else []) name → MayGo job rules rows name
+  choose true goes within =
+      elim (Contains-push_cases [] (text_of row.name) name within) [
         | inl none ↦ absurd (no-element name none)
         | inr same ↦
             record {
@@ -82,29 +88,44 @@ going-may rules rows earlier row later name some is within = choose row.name ref
               row = row;
               later = later;
               listed = is;
-              named = named ∙ ap Snap same;
+              named = snap-named row.name snap ∙ ap Snap same;
               no_holds = same-number row.refs 0 (and-both (row.refs == 0) _ goes).0;
-              kept_by_none = not-true (retained rules rows row later) (and-both (row.refs == 0) _ goes).1;
+              kept_by_none = not-true kept (and-both (row.refs == 0) _ goes).1;
             }
       ]
-  pick snap named false goes within = absurd (no-element name within)
+  choose false goes within = absurd (no-element name within)
 
-  choose : (named : VersionName) → row.name ≡ named → Contains (going rules rows row later named) name → MayGo rules rows name
-  choose (Mark mark) named within = absurd (no-element name within)
-  choose (Snap snap) named within = pick snap named ((row.refs == 0) && not (retained rules rows row later)) refl within
+one-more : (earlier : List VersionRow) (row : VersionRow) → is_snap row ≡ true → length (snaps_of (earlier ++ row ∷ [])) ≡ length (snaps_of earlier) + 1
+one-more earlier row snap = ap length (snaps-more earlier row snap) ∙ length-append (snaps_of earlier) (rule_row row ∷ [])
 
-from-may : (rules : List RuleSpec) (rows earlier left : List VersionRow) (name : List ℕ) → 0 < length rules → rows ≡ earlier ++ left → Contains (going_from rules rows left) name → MayGo rules rows name
-from-may rules rows earlier [] name some is within = absurd (no-element name within)
-from-may rules rows earlier (row ∷ later) name some is within =
-    elim (Contains-append_cases (going rules rows row later row.name) (going_from rules rows later) name within) [
-      | inl here ↦ going-may rules rows earlier row later name some is here
-      | inr there ↦ from-may rules rows (earlier ++ row ∷ []) later name some (is ∙ sym (append_assoc earlier (row ∷ []) later)) there
-    ]
+from-may : (job : List ℕ) (rules : List RuleSpec) (rows earlier left : List VersionRow) (name : List ℕ) → 0 < length rules → rows ≡ earlier ++ left → Contains (going_from rules (snaps_of rows) (cursor_txg job rows) (length (snaps_of earlier)) left) name → MayGo job rules rows name
+from-may job rules rows earlier [] name some is within = absurd (no-element name within)
+from-may job rules rows earlier (row ∷ later) name some is within = choose (is_snap row) refl (from-may job rules rows (earlier ++ row ∷ []) later name some (is ∙ sym (append_assoc earlier (row ∷ []) later))) within where
+  place : ℕ
+  place = length (snaps_of earlier)
+
+  going : ℕ → List (List ℕ)
+  going at = going_from rules (snaps_of rows) (cursor_txg job rows) at later
+
+  here : List (List ℕ)
+  here = gone (retained rules (snaps_of rows) (cursor_txg job rows) place (rule_row row)) row
+
+  choose : (b : Bool) → is_snap row ≡ b → (Contains (going (length (snaps_of (earlier ++ row ∷ [])))) name → MayGo job rules rows name) → Contains (if b then here ++ going (place + 1) else going place) name → MayGo job rules rows name
+  choose true snap further within =
+      let At : ℕ → Type 0 = λ n. Contains (going n) name in
+      elim (Contains-append_cases here (going (place + 1)) name within) [
+        | inl now ↦ gone-may job rules rows earlier row later name some is snap now
+        | inr there ↦ further (subst At (sym (one-more earlier row snap)) there)
+      ]
+  choose false mark further within =
+      let At : ℕ → Type 0 = λ n. Contains (going n) name in
+      further (subst At (sym (ap length (snaps-same earlier row mark))) within)
 
 -- what a listing dooms may go
-pub doomed-may : (rules : List RuleSpec) (rows : List VersionRow) (name : List ℕ) → Contains (doomed rules rows) name → MayGo rules rows name
-doomed-may [] rows name within = absurd (no-element name within)
-doomed-may (rule ∷ rules) rows name within = from-may (rule ∷ rules) rows [] rows name (omega arith) refl within
+pub doomed-may : (job : List ℕ) (rules : List RuleSpec) (rows : List VersionRow) (name : List ℕ) → Contains (doomed job rules rows) name → MayGo job rules rows name
+doomed-may job [] rows name within = absurd (no-element name within)
+doomed-may job (rule ∷ rules) rows name within =
+    from-may job (rule ∷ rules) rows [] rows name (omega arith) refl within
 
 -- each turn of a legal transcript was allowed after those before it
 legal-at : (jobs : JobSet) (unit : Unit) (before past : Transcript) (turn : Turn) (later : Transcript) → LegalAfter jobs unit before (past ++ turn ∷ later) → Allowed jobs unit (before ++ past) turn.0
@@ -121,16 +142,16 @@ no-destroy None past path names replicates = replicates
 no-destroy (Some pair) past path names replicates = replicates
 
 -- a destroy is permitted by a listing alone
-permits-listed : (jobs : JobSet) (number : ℕ) (unit_work : Work) (past : Transcript) (path : List ℕ) (names : List (List ℕ)) → Permits jobs number unit_work past (cmd.DestroySnaps path names) → All (WasListed (rules_by (job_at jobs number) unit_work) past path) names
+permits-listed : (jobs : JobSet) (number : ℕ) (unit_work : Work) (past : Transcript) (path : List ℕ) (names : List (List ℕ)) → Permits jobs number unit_work past (cmd.DestroySnaps path names) → All (WasListed (name_of (job_at jobs number)) (rules_by (job_at jobs number) unit_work) past path) names
 permits-listed jobs number (work.PruneSource own) past path names permits = λ k d inside. choose (listed own past) refl (get_or names k d) (permits.1 k d inside) where
-  choose : (told : Option (List VersionRow)) → listed own past ≡ told → (name : List ℕ) → Contains (doomed_in jobs number told) name → WasListed (rules_of (job_at jobs number)) past path name
+  choose : (told : Option (List VersionRow)) → listed own past ≡ told → (name : List ℕ) → Contains (doomed_in jobs number told) name → WasListed (name_of (job_at jobs number)) (rules_of (job_at jobs number)) past path name
   choose None none name within = absurd (no-element name within)
   choose (Some rows) told name within =
       let on : List ℕ → Type 0 = λ p. Contains past (cmd.Versions p, answer.Done (reply.Versions rows)) in
       record {
         rows = rows;
         told = subst on (sym permits.0) (listed-turn own past rows told);
-        may_go = doomed-may (rules_of (job_at jobs number)) rows name within;
+        may_go = doomed-may (name_of (job_at jobs number)) (rules_of (job_at jobs number)) rows name within;
       }
 permits-listed jobs number (work.Replicate source) past path names permits =
     absurd (no-destroy (pair_of (job_at jobs number) source) past path names permits)

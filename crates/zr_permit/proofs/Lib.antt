@@ -1,7 +1,9 @@
 pub mod Legality
 pub mod Recording
 pub mod Ending
+pub mod Cursors
 pub mod Dooming
+pub mod Snaps
 pub mod Listing
 pub mod Honest
 pub mod Running

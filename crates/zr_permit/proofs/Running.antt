@@ -5,18 +5,16 @@ use Rattle.zr_names.specs.declared.outcome.Outcome.{Outcome}
 use Rattle.zr_names.specs.declared.outcome.Outcome.TheVariants as outcome
 use Rattle.zr_names.specs.declared.unit.Unit.{Unit}
 use Rattle.zr_names.specs.declared.unit.Work.{Work}
-use Rattle.zr_command.specs.declared.command.Answer.{Answer}
 use Rattle.zr_command.specs.declared.command.Answer.TheVariants as answer
-use Rattle.zr_command.specs.declared.command.Cmd.{Cmd}
 use Rattle.zr_command.specs.declared.command.Entry.{Entry}
 use Rattle.zr_command.specs.declared.command.Entry.TheVariants.{Begin}
 use Rattle.zr_world.specs.Answering.{appended}
 use Rattle.zr_jobs.specs.declared.job.JobSet.{JobSet}
 use Rattle.zr_permit.specs.Result.{is_out_of_memory, ResultOf, WantsMemory}
-use Rattle.zr_permit.specs.Runs.{EndsAs, GoesOnToTheLast, HasRun, Ran}
+use Rattle.zr_permit.specs.Runs.{GoesOnToTheLast, HasRun, Ran}
 use Rattle.zr_permit.specs.Sight.{HasEnded, HasJustBegun, Sight}
 use Rattle.zr_permit.specs.Transcript.{GoesOn, Legal, LegalAfter, Transcript, Turn}
-use Rattle.zr_permit.specs.Turned.{calls, IsRecordOf, RecordsShort, IsRecordOfUnit}
+use Rattle.zr_permit.specs.Turned.{calls, IsRecordOf, IsRecordOfUnit}
 use Rattle.zr_permit.proofs.Legality.{legal-answered, legal-front}
 
 -- what a record is after a begin and some calls

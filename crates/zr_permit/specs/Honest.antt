@@ -10,14 +10,15 @@ use Rattle.zr_command.specs.declared.version.VersionName.TheVariants.{Snap}
 use Rattle.zr_command.specs.declared.version.VersionRow.{VersionRow}
 use Rattle.zr_jobs.specs.declared.job.Job.{Job}
 use Rattle.zr_jobs.specs.declared.job.JobSet.{JobSet}
-use Rattle.zr_jobs.specs.declared.job.RuleSpec.{RuleSpec}
-use Rattle.zr_jobs.specs.Jobs.{job_at, rules_of}
-use Rattle.zr_permit.specs.Keep.{retained}
+use Rattle.zr_rules.specs.declared.rule.RuleSpec.{RuleSpec}
+use Rattle.zr_rules.specs.Keeps.{retained}
+use Rattle.zr_jobs.specs.Jobs.{job_at, name_of, rules_of}
+use Rattle.zr_permit.specs.Keep.{cursor_txg, rule_row, snaps_of}
 use Rattle.zr_permit.specs.Transcript.{Transcript}
 
--- a listing shows a snapshot of this name that has no holds and that none of the rules keeps; there is at
+-- a listing shows a snapshot of this name that has no holds and that none of the rules of a job keeps; there is at
 -- least one rule
-pub record MayGo (rules : List RuleSpec) (rows : List VersionRow) (name : List ℕ) : Type 0 where
+pub record MayGo (job : List ℕ) (rules : List RuleSpec) (rows : List VersionRow) (name : List ℕ) : Type 0 where
   pub some_rule : 0 < length rules
   pub earlier : List VersionRow
   pub row : VersionRow
@@ -25,13 +26,14 @@ pub record MayGo (rules : List RuleSpec) (rows : List VersionRow) (name : List �
   pub listed : rows ≡ earlier ++ row ∷ later
   pub named : row.name ≡ Snap name
   pub no_holds : row.refs ≡ 0
-  pub kept_by_none : retained rules rows row later ≡ false
+  pub kept_by_none :
+      retained rules (snaps_of rows) (cursor_txg job rows) (length (snaps_of earlier)) (rule_row row) ≡ false
 
 -- a unit has listed a dataset before, and by that listing the snapshot of this name may be destroyed
-pub record WasListed (rules : List RuleSpec) (past : Transcript) (path name : List ℕ) : Type 0 where
+pub record WasListed (job : List ℕ) (rules : List RuleSpec) (past : Transcript) (path name : List ℕ) : Type 0 where
   pub rows : List VersionRow
   pub told : Contains past (cmd.Versions path, answer.Done (reply.Versions rows))
-  pub may_go : MayGo rules rows name
+  pub may_go : MayGo job rules rows name
 
 -- the rules by which a unit may destroy snapshots, those of its side: a job has rules for its source, and a unit that prunes
 -- something else, or nothing, has none
@@ -45,4 +47,4 @@ abbrev pub IsHonest : JobSet → Unit → Transcript → Type 0
 IsHonest jobs unit turns =
     (past later : Transcript) (path : List ℕ) (names : List (List ℕ)) (given : Answer) →
     turns ≡ past ++ (cmd.DestroySnaps path names, given) ∷ later →
-    All (WasListed (rules_by (job_at jobs unit.job) unit.work) past path) names
+    All (WasListed (name_of (job_at jobs unit.job)) (rules_by (job_at jobs unit.job) unit.work) past path) names

@@ -1,51 +1,63 @@
-use Rattle.std.specs.Prelude.{◌==◌, ◌&&◌, ◌||◌, ℕ, ◌+◌, Bool, not, if◌then◌else◌, List, [], ◌∷◌, ◌++◌, nat_lt, count_by}
-use Rattle.std.specs.List.{list_any}
-use Rattle.zr_command.specs.Kinds.{is_snap}
+-- Which snapshots of a listing pruning destroys.
+use Rattle.std.specs.Prelude.{◌==◌, ◌&&◌, ℕ, ◌+◌, Bool, true, false, not, if◌then◌else◌, List, [], ◌∷◌, ◌++◌, Option, Some, None, filter, map, min}
+use Rattle.zr_names.specs.declared.marks.MarkKind.{MarkKind}
+use Rattle.zr_names.specs.declared.marks.MarkKind.TheVariants as mark
+use Rattle.zr_command.specs.Kinds.{is_snap, kind_in}
 use Rattle.zr_command.specs.declared.version.VersionName.{VersionName}
 use Rattle.zr_command.specs.declared.version.VersionName.TheVariants.{Snap, Mark}
 use Rattle.zr_command.specs.declared.version.VersionRow.{VersionRow}
-use Rattle.zr_jobs.specs.declared.job.RuleSpec.{RuleSpec}
-use Rattle.zr_jobs.specs.declared.job.RuleSpec.TheVariants.{LastN}
+use Rattle.zr_rules.specs.declared.rule.RuleRow.{RuleRow}
+use Rattle.zr_rules.specs.declared.rule.RuleSpec.{RuleSpec}
+use Rattle.zr_rules.specs.Keeps.{retained}
 
--- of two snapshots the newer is the one with the greater creation, or with equal creation and the
--- greater transaction group
-abbrev pub is_newer : VersionRow → VersionRow → Bool
-is_newer row other =
-    nat_lt row.creation other.creation
-    || ((row.creation == other.creation) && nat_lt row.txg other.txg)
+abbrev pub text_of : VersionName → List ℕ
+text_of (Snap name) = name
+text_of (Mark name) = name
 
-abbrev pub is_as_old : VersionRow → VersionRow → Bool
-is_as_old row other = (row.creation == other.creation) && (row.txg == other.txg)
+-- the snapshots of a listing, as keep rules see them
+abbrev pub rule_row : VersionRow → RuleRow
+rule_row row = record { name = text_of row.name; txg = row.txg; creation = row.creation }
 
--- how many snapshots are newer than one; of two that are as old, the later in the list is newer
-abbrev pub newer_count : List VersionRow → VersionRow → List VersionRow → ℕ
-newer_count rows row later =
-    count_by (λ other. is_snap other && is_newer row other) rows
-    + count_by (λ other. is_snap other && is_as_old row other) later
+abbrev pub snaps_of : List VersionRow → List RuleRow
+snaps_of rows = map rule_row (filter is_snap rows)
 
--- a rule keeps a snapshot of a listing, before these later rows: `last_n` the newest ones
-abbrev pub keeps : List VersionRow → VersionRow → List VersionRow → RuleSpec → Bool
-keeps rows row later (LastN count) = nat_lt (newer_count rows row later) count
+-- a mark is a cursor, of whatever guid
+abbrev pub is_any_cursor : MarkKind → Bool
+is_any_cursor (mark.Cursor guid) = true
+is_any_cursor (mark.Tentative guid) = false
+is_any_cursor mark.OldCursor = false
+is_any_cursor mark.Other = false
 
--- a snapshot is retained where at least one rule keeps it
-abbrev pub retained : List RuleSpec → List VersionRow → VersionRow → List VersionRow → Bool
-retained rules rows row later = list_any (keeps rows row later) rules
+-- a row is the job's own cursor
+abbrev pub is_own_cursor : List ℕ → VersionRow → Bool
+is_own_cursor job row = is_any_cursor (kind_in job row.name)
 
--- what a row gives to the list of snapshots to destroy: its name, where it is a snapshot with no holds
--- that no rule keeps
-abbrev pub going : List RuleSpec → List VersionRow → VersionRow → List VersionRow → VersionName → List (List ℕ)
-going rules rows row later (Mark name) = []
-going rules rows row later (Snap name) =
-    if (row.refs == 0) && not (retained rules rows row later) then name ∷ [] else []
+-- the lesser of a number and one that may be there
+abbrev pub lesser : ℕ → Option ℕ → ℕ
+lesser n None = n
+lesser n (Some least) = min n least
 
--- of the rows from one on, the snapshots that go
-abbrev pub going_from : List RuleSpec → List VersionRow → List VersionRow → List (List ℕ)
-going_from rules rows [] = []
-going_from rules rows (row ∷ later) =
-    going rules rows row later row.name ++ going_from rules rows later
+abbrev pub least : List ℕ → Option ℕ
+least [] = None
+least (n ∷ ns) = Some (lesser n (least ns))
 
--- the snapshots of a listing that pruning destroys, in the order of the listing; where there are no
--- rules, none
-abbrev pub doomed : List RuleSpec → List VersionRow → List (List ℕ)
-doomed [] rows = []
-doomed (rule ∷ rules) rows = going_from (rule ∷ rules) rows rows
+-- the replication cursor that rules go by: the transaction group of the job's own cursor with the least one
+abbrev pub cursor_txg : List ℕ → List VersionRow → Option ℕ
+cursor_txg job rows = least (map (λ row. row.txg) (filter (is_own_cursor job) rows))
+
+-- what a snapshot gives to the list of those to destroy: its name, where it has no holds and is not kept
+abbrev pub gone : Bool → VersionRow → List (List ℕ)
+gone kept row = if (row.refs == 0) && not kept then text_of row.name ∷ [] else []
+
+-- of the rows from one on, whose first snapshot has this place among all, those that go
+abbrev pub going_from : List RuleSpec → List RuleRow → Option ℕ → ℕ → List VersionRow → List (List ℕ)
+going_from rules snaps cursor place [] = []
+going_from rules snaps cursor place (row ∷ later) =
+    if is_snap row then gone (retained rules snaps cursor place (rule_row row)) row ++ going_from rules snaps cursor (place + 1) later
+    else going_from rules snaps cursor place later
+
+-- the snapshots of a listing that pruning destroys by these rules of a job, in the order of the listing: those with no holds that
+-- no rule keeps; where there are no rules, none
+abbrev pub doomed : List ℕ → List RuleSpec → List VersionRow → List (List ℕ)
+doomed job [] rows = []
+doomed job (rule ∷ rules) rows = going_from (rule ∷ rules) (snaps_of rows) (cursor_txg job rows) 0 rows

@@ -1,5 +1,6 @@
 pub mod Honest
 pub mod Keep
+pub mod Marked
 pub mod Result
 pub mod Runs
 pub mod Seen

@@ -16,7 +16,7 @@ use Rattle.zr_jobs.specs.declared.pair.Pair.{Pair}
 use Rattle.zr_known.specs.declared.straight.TheConstants.{NOT_STRAIGHT}
 use Rattle.zr_permit.specs.declared.told.Told.{Told}
 use Rattle.zr_permit.specs.declared.told.Told.TheVariants as told
-use Rattle.zr_jobs.specs.Jobs.{fits_in, job_at, matched, pair_of, rules_of}
+use Rattle.zr_jobs.specs.Jobs.{fits_in, job_at, matched, name_of, pair_of, rules_of}
 use Rattle.zr_permit.specs.Keep.{doomed}
 use Rattle.zr_known.specs.Known.{known_of}
 use Rattle.zr_known.specs.Straight.{has_listed, is_listing, is_straight, IsFinished}
@@ -62,7 +62,7 @@ pub record HasPruned (jobs : JobSet) (unit : Unit) (turns : Transcript) (destroy
   pub told : listed path turns ≡ Some rows
   pub issued :
       All (λ name. Any (λ (turn : Turn). Destroys path name turn.0) turns)
-      (doomed (rules_of (job_at jobs unit.job)) rows)
+      (doomed (name_of (job_at jobs unit.job)) (rules_of (job_at jobs unit.job)) rows)
   pub destroyed_are : destroyed ≡ capped (sum_by (λ (turn : Turn). done_names turn.0 turn.1) turns)
   pub busy_are : busy ≡ capped (sum_by (λ (turn : Turn). failed_names turn.0 turn.1) turns)
 

@@ -10,7 +10,7 @@ use Rattle.zr_command.specs.declared.command.Cmd.TheVariants as cmd
 use Rattle.zr_command.specs.declared.command.Reply.TheVariants as reply
 use Rattle.zr_command.specs.declared.version.VersionRow.{VersionRow}
 use Rattle.zr_jobs.specs.declared.job.JobSet.{JobSet}
-use Rattle.zr_jobs.specs.Jobs.{job_at, pair_of, rules_of}
+use Rattle.zr_jobs.specs.Jobs.{job_at, name_of, pair_of, rules_of}
 use Rattle.zr_permit.specs.Keep.{doomed}
 use Rattle.zr_jobs.specs.declared.pair.Pair.{Pair}
 use Rattle.zr_known.specs.Known.{known_of}
@@ -69,7 +69,7 @@ IsNew past command = ⊤
 -- the snapshots that a unit's own listing dooms
 abbrev pub doomed_in : JobSet → ℕ → Option (List VersionRow) → List (List ℕ)
 doomed_in jobs number None = []
-doomed_in jobs number (Some rows) = doomed (rules_of (job_at jobs number)) rows
+doomed_in jobs number (Some rows) = doomed (name_of (job_at jobs number)) (rules_of (job_at jobs number)) rows
 
 -- what a replication unit may give after its turns: a line a command, by what they told it
 abbrev pub Replicates : Option Pair → Transcript → Cmd → Type 0

@@ -1,7 +1,5 @@
-use Rattle.std.specs.Prelude.{⊤}
-use Rattle.std.proofs.Common.{◌≡◌, ◌∙◌, ◌⊎◌, ◌||◌, ℕ, ◌+◌, zero, suc, Bool, true, false, true≢false, List, [], ◌∷◌, ◌++◌, Option, Some, None, ap, arith, cond, filter, inl, inr, length, map, min, not, refl, subst, sym, zero-add}
-use Rattle.std.specs.List.{All, list_any, sum_by}
-use Rattle.std.specs.Option.{option_map_or}
+use Rattle.std.proofs.Common.{◌≡◌, ◌∙◌, ◌||◌, ℕ, ◌+◌, Bool, true, false, List, [], ◌∷◌, ◌++◌, Option, Some, None, ap, arith, cond, filter, inl, inr, map, not, refl, subst, sym, zero-add}
+use Rattle.std.specs.List.{All, sum_by}
 use Rattle.std.proofs.lemmas.List.Sums.{sum_by-append}
 use Rattle.std.proofs.lemmas.List.Elements.{All-cons, All-head, All-nil, All-tail}
 use Rattle.zr_names.specs.declared.outcome.Outcome.{Outcome}
@@ -23,18 +21,14 @@ use Rattle.zr_world.specs.declared.pools.Pools.{Pools}
 use Rattle.zr_world.specs.declared.pools.Version.{Version}
 use Rattle.zr_world.specs.Answering.{Acts, Answers, AnswersWords}
 use Rattle.zr_world.specs.Effect.{first_changed, Leaves, Replies, with_set, without}
-use Rattle.zr_world.specs.Lookup.{dataset_at, has_name, is_at}
-use Rattle.zr_world.specs.Rows.{row_of_version}
+use Rattle.zr_world.specs.Lookup.{has_name, is_at}
 use Rattle.zr_world.proofs.Moments.{came-whole}
 use Rattle.std.specs.Cmp.Lexicographic.{nat_list_eq_equiv}
 use Rattle.zr_names.specs.declared.unit.Unit.{Unit}
 use Rattle.zr_jobs.specs.declared.job.JobSet.{JobSet}
-use Rattle.zr_jobs.specs.declared.job.RuleSpec.{RuleSpec}
-use Rattle.zr_jobs.specs.Jobs.{job_at, rules_of}
-use Rattle.zr_permit.specs.Keep.{doomed}
 use Rattle.zr_permit.specs.Result.{capped, failed_names}
 use Rattle.zr_permit.specs.Sight.{ActedBy, HasJustBegun, Sight, Went}
-use Rattle.zr_permit.specs.Transcript.{GoesOn, later_of, listed as last_listed, rows_told, Transcript, Turn}
+use Rattle.zr_permit.specs.Transcript.{doomed_in, GoesOn, later_of, listed as last_listed, rows_told, Transcript, Turn}
 use Rattle.zr_prune.specs.Alone.{is_snap_among, PrunesAlone, rows_at, without_snaps}
 use Rattle.zr_prune.specs.Pruning.{destroy_one, HasGivenAll, IsPruned, IsPruning}
 use Rattle.zr_prune.proofs.Steps.{commands}
@@ -301,7 +295,7 @@ none-capped : (count : ℕ) → 0 ≡ capped count → count ≡ 0
 none-capped count e = omega (arith, e)
 
 -- a prune that has given all and of which no command failed has left its dataset without the doomed snapshots
-has-given-alone : (before now : Sight) → HasJustBegun before → Went before now → HasGivenAll now 0 → (path : List ℕ) (pools after : Pools) → before.unit.work ≡ work.PruneSource path → before.pools ≡ Some pools → now.pools ≡ Some after → after ≡ with_set pools path (without_snaps (doomed (rules_of (job_at before.jobs before.unit.job)) (rows_at pools path)))
+has-given-alone : (before now : Sight) → HasJustBegun before → Went before now → HasGivenAll now 0 → (path : List ℕ) (pools after : Pools) → before.unit.work ≡ work.PruneSource path → before.pools ≡ Some pools → now.pools ≡ Some after → after ≡ with_set pools path (without_snaps (doomed_in before.jobs before.unit.job (Some (rows_at pools path))))
 has-given-alone before now begun went given path pools after is told_before told_now =
     let own = same-path given.path path (sym given.pruning.work_is ∙ ap (λ (u : Unit). u.work) went.same_unit ∙ is) in
     let At : List ℕ → Type 0 = λ p. IsPruning now p given.names given.names in
@@ -314,10 +308,11 @@ has-given-alone before now begun went given path pools after is told_before told
     let By : Transcript → Type 0 = λ ts. ActedBy ts before.pools now.pools in
     let acted = subst From told_before (subst To told_now (subst By (sym turns) went.acted)) in
     let rows = rows-listed path given.names now.turns pruning.rows pools after pruning.commands done acted pruning.told in
-    let rules_same : rules_of (job_at now.jobs now.unit.job) ≡ rules_of (job_at before.jobs before.unit.job) =
-    ap (λ (j : JobSet). rules_of (job_at j now.unit.job)) went.same_jobs ∙ ap (λ (u : Unit). rules_of (job_at before.jobs u.job)) went.same_unit in
+    let of_rows : List VersionRow → List (List ℕ) = λ r. doomed_in now.jobs now.unit.job (Some r) in
+    let same : doomed_in now.jobs now.unit.job (Some (rows_at pools path)) ≡ doomed_in before.jobs before.unit.job (Some (rows_at pools path)) =
+    ap (λ (j : JobSet). doomed_in j now.unit.job (Some (rows_at pools path))) went.same_jobs ∙ ap (λ (u : Unit). doomed_in before.jobs u.job (Some (rows_at pools path))) went.same_unit in
     pruned path given.names now.turns pools after pruning.commands done acted
-    ∙ ap (λ (names : List (List ℕ)). with_set pools path (without_snaps names)) (pruning.names_are ∙ ap (λ (r : List VersionRow). doomed (rules_of (job_at now.jobs now.unit.job)) r) rows ∙ ap (λ (rules : List RuleSpec). doomed rules (rows_at pools path)) rules_same)
+    ∙ ap (λ (names : List (List ℕ)). with_set pools path (without_snaps names)) (pruning.names_are ∙ ap of_rows rows ∙ same)
 
 pub prunes-alone : (before now : Sight) (ended : Outcome) → HasJustBegun before → Went before now → IsPruned now ended → PrunesAlone before now ended
 prunes-alone before now (outcome.Pruned count busy) begun went pruned_is = λ none.

@@ -1,4 +1,4 @@
-use Rattle.std.proofs.Common.{◌≡◌, ◌≢◌, ◌∙◌, ℕ, zero, suc, ◌+◌, ◌-◌, ◌<◌, ◌≤◌, ◌^◌, Bool, true, false, List, [], ◌∷◌, ◌++◌, Option, Some, ap, refl, sym, subst, arith, length, length-take-le, map, min, take, take_all, get_or, cond, zero-add, add-zero, ◌⊎◌, inl, inr}
+use Rattle.std.proofs.Common.{◌≡◌, ◌≢◌, ◌∙◌, ℕ, zero, suc, ◌+◌, ◌-◌, ◌<◌, ◌≤◌, ◌^◌, true, false, List, [], ◌∷◌, ◌++◌, Option, Some, ap, refl, sym, subst, arith, length, length-take-le, map, min, take, take_all, get_or, zero-add, add-zero, ◌⊎◌, inl, inr}
 use Rattle.std.specs.List.{All, AllPairs, Any, Contains, sum_by}
 use Rattle.std.proofs.lemmas.List.Sums.{sum_by-append}
 use Rattle.std.proofs.lemmas.List.{get_or-map, get_or-take, get_or_default, length-map, map-append, take_more}
@@ -25,7 +25,7 @@ use Rattle.zr_permit.proofs.Dooming.{doomed-differ}
 use Rattle.zr_jobs.specs.declared.job.JobSet.{JobSet}
 use Rattle.zr_permit.specs.declared.told.Told.{Told}
 use Rattle.zr_permit.specs.declared.told.Told.TheVariants as told
-use Rattle.zr_jobs.specs.Jobs.{job_at, rules_of}
+use Rattle.zr_jobs.specs.Jobs.{job_at, name_of, rules_of}
 use Rattle.zr_permit.specs.Keep.{doomed}
 use Rattle.zr_permit.specs.Result.{capped, ended_as, done_names, failed_names, HasPruned}
 use Rattle.zr_permit.specs.Transcript.{Allowed, Destroys, doomed_in, GoesOn, listed, Permits, Transcript, Turn}
@@ -229,7 +229,7 @@ begun jobs unit path names rows turns is list turns_are names_are =
       rows = rows;
       told = listed_are;
       names_are = doomed_are;
-      names_differ = subst differ (sym doomed_are) (doomed-differ (rules_of (job_at jobs unit.job)) rows list.names_differ);
+      names_differ = subst differ (sym doomed_are) (doomed-differ (name_of (job_at jobs unit.job)) (rules_of (job_at jobs unit.job)) rows list.names_differ);
       commands = ap commands turns_are;
     }
 

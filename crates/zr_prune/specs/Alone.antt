@@ -1,4 +1,4 @@
-use Rattle.std.specs.Prelude.{⊤, ◌≡◌, ℕ, Bool, List, [], Option, Some, filter, map, not}
+use Rattle.std.specs.Prelude.{⊤, ◌≡◌, ℕ, Bool, List, [], Some, filter, map, not}
 use Rattle.std.specs.List.{list_any}
 use Rattle.std.specs.Option.{option_map_or}
 use Rattle.zr_names.specs.declared.outcome.Outcome.{Outcome}
@@ -12,8 +12,7 @@ use Rattle.zr_world.specs.declared.pools.Version.{Version}
 use Rattle.zr_world.specs.Effect.{with_set}
 use Rattle.zr_world.specs.Lookup.{dataset_at, has_name}
 use Rattle.zr_world.specs.Rows.{row_of_version}
-use Rattle.zr_jobs.specs.Jobs.{job_at, rules_of}
-use Rattle.zr_permit.specs.Keep.{doomed}
+use Rattle.zr_permit.specs.Transcript.{doomed_in}
 use Rattle.zr_permit.specs.Sight.{Sight}
 
 -- the rows that a listing of a dataset shows
@@ -35,5 +34,5 @@ abbrev pub PrunesAlone : Sight → Sight → Outcome → Type 0
 PrunesAlone before now (outcome.Pruned destroyed busy) =
     busy ≡ 0 → (path : List ℕ) (pools after : Pools) → before.unit.work ≡ work.PruneSource path → before.pools ≡ Some pools →
     now.pools ≡ Some after →
-    after ≡ with_set pools path (without_snaps (doomed (rules_of (job_at before.jobs before.unit.job)) (rows_at pools path)))
+    after ≡ with_set pools path (without_snaps (doomed_in before.jobs before.unit.job (Some (rows_at pools path))))
 PrunesAlone before now other = ⊤

@@ -10,7 +10,7 @@ use Rattle.zr_command.specs.declared.command.Cmd.TheVariants as cmd
 use Rattle.zr_command.specs.declared.command.Reply.TheVariants as reply
 use Rattle.zr_command.specs.declared.version.VersionRow.{VersionRow}
 use Rattle.zr_jobs.specs.declared.job.JobSet.{JobSet}
-use Rattle.zr_jobs.specs.Jobs.{job_at, rules_of}
+use Rattle.zr_jobs.specs.Jobs.{job_at, name_of, rules_of}
 use Rattle.zr_permit.specs.Keep.{doomed}
 use Rattle.zr_permit.specs.Result.{capped, failed_names}
 use Rattle.zr_permit.specs.Sight.{Sight}
@@ -37,7 +37,7 @@ pub record Pruning (jobs : JobSet) (unit : Unit) (path : List ℕ) (names given 
   pub goes_on : All (λ turn. GoesOn unit.work turn.0 turn.1) turns
   pub rows : List VersionRow
   pub told : listed path turns ≡ Some rows
-  pub names_are : names ≡ doomed (rules_of (job_at jobs unit.job)) rows
+  pub names_are : names ≡ doomed (name_of (job_at jobs unit.job)) (rules_of (job_at jobs unit.job)) rows
   pub names_differ : AllPairs (λ a b. a ≢ b) names
   pub commands : map (λ (turn : Turn). turn.0) turns ≡ cmd.Versions path ∷ map (destroy_one path) given
 

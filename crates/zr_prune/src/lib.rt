@@ -4,6 +4,7 @@
 ghost use Rattle.std.specs.Prelude.{◌≡◌, ◌<◌, [], IfOk, List, Option, false, length, slice_index_or, take};
 ghost use Rattle.zr_base.specs.Count.{Rose};
 ghost use Rattle.zr_names.specs.declared.unit.Work.TheVariants as work;
+ghost use Rattle.zr_jobs.specs.Jobs.{job_at, rules_of};
 ghost use Rattle.zr_permit.specs.Sight.{HasEnded, HasJustBegun, IsAtWork, sight, Went};
 ghost use Rattle.zr_permit.specs.Transcript.{doomed_in, listed};
 ghost use Rattle.zr_permit.specs.Turned.{HasTurned, is_no_memory, IsRecordOf, IsRecordAfter, Turns};
@@ -14,8 +15,9 @@ ghost use Rattle.zr_command.specs.declared.command.Entry.{Entry};
 
 use std::alloc::{AllocError, Global};
 use zr_command::{Answer, Cmd, Names, Reply};
-use zr_names::{Outcome, Path, Same, SnapName, Work};
+use zr_names::{NoMemory, Outcome, Path, Same, SnapName, Work};
 use zr_permit::{Guarded, Told, doomed};
+use zr_rules::Rules;
 use zr_world::Zfs;
 
 /// The dataset that the unit prunes.
@@ -69,15 +71,23 @@ fn doomed_names<Z: Zfs>(
     alloc: Global,
     unit: &Guarded<'_, Z>,
     path: &Path,
-) -> Result<Vec<SnapName>, AllocError>
-    requires { IsListed (sight Z.Zfs unit.now).turns path.now }
-    ensures { IfOk result (λ names. names.items
+    rules: &mut Rules,
+) -> Result<Vec<SnapName>, NoMemory>
+    requires listed { IsListed (sight Z.Zfs unit.now).turns path.now }
+    requires rules { rules.old
+        ≡ rules_of (job_at (sight Z.Zfs unit.now).jobs (sight Z.Zfs unit.now).unit.job) }
+    ensures doomed { IfOk result (λ names. names.items
         ≡ doomed_in (sight Z.Zfs unit.now).jobs (sight Z.Zfs unit.now).unit.job
         (listed path.now (sight Z.Zfs unit.now).turns)) }
+    ensures rules { rules.new ≡ rules.old }
 {
-    let rules = unit.jobs().rules(unit.unit().job);
+    let Some(job) = unit.jobs().job(unit.unit().job) else {
+        return Ok(Vec::new(alloc));
+    };
     match unit.last() {
-        Some(Answer::Done(Reply::Versions(rows))) => doomed(alloc, rules, rows.as_slice()),
+        Some(Answer::Done(Reply::Versions(rows))) => {
+            doomed(alloc, &job.name, rules, rows.as_slice())
+        }
         _ => unreachable!(),
     }
 }
@@ -138,35 +148,46 @@ fn destroy_all<Z: Zfs>(
 }
 
 /// Prunes the dataset, whose versions the unit has just listed.
-fn prune_listed<Z: Zfs>(alloc: Global, unit: &mut Guarded<'_, Z>, path: &Path) -> Outcome
+fn prune_listed<Z: Zfs>(
+    alloc: Global,
+    unit: &mut Guarded<'_, Z>,
+    path: &Path,
+    rules: &mut Rules,
+) -> Outcome
     requires at_work { IsAtWork (sight Z.Zfs unit.old) }
+    requires rules { rules.old
+        ≡ rules_of (job_at (sight Z.Zfs unit.old).jobs (sight Z.Zfs unit.old).unit.job) }
     requires own { (sight Z.Zfs unit.old).unit.work ≡ work.PruneSource path.now }
     requires listed { HasTurned [] (sight Z.Zfs unit.old).turns (cmd.Versions path.now) Told.Done }
     ensures ended { HasEnded (sight Z.Zfs unit.old) (sight Z.Zfs unit.new) result }
     ensures pruned { IsPruned (sight Z.Zfs unit.new) result }
+    ensures rules { rules.new ≡ rules.old }
     ensures same_runner { unit.new.runner.ghost_name ≡ unit.old.runner.ghost_name }
 {
-    match doomed_names(alloc, unit, path) {
+    match doomed_names(alloc, unit, path, rules) {
         Ok(names) => destroy_all(alloc, unit, path, names.as_slice()),
         Err(_) => unit.out_of_memory(),
     }
 }
 
 /// Lists the unit's dataset and destroys, in the order of the listing, each snapshot with no holds that
-/// no rule of the job keeps (zrepl's documentation, "Pruning Policies"). A destroy that fails counts as
-/// busy, and the unit goes on.
-pub fn prune<Z: Zfs>(alloc: Global, unit: &mut Guarded<'_, Z>) -> Outcome
+/// no rule of the job keeps (zrepl's documentation, "Pruning Policies"). The rules are those that `compile`
+/// gives for the job. A destroy that fails counts as busy, and the unit goes on.
+pub fn prune<Z: Zfs>(alloc: Global, unit: &mut Guarded<'_, Z>, rules: &mut Rules) -> Outcome
     requires begun { HasJustBegun (sight Z.Zfs unit.old) }
+    requires rules { rules.old
+        ≡ rules_of (job_at (sight Z.Zfs unit.old).jobs (sight Z.Zfs unit.old).unit.job) }
     requires kind { IsPruneSource (sight Z.Zfs unit.old).unit.work }
     ensures ended { HasEnded (sight Z.Zfs unit.old) (sight Z.Zfs unit.new) result }
     ensures alone { PrunesAlone (sight Z.Zfs unit.old) (sight Z.Zfs unit.new) result }
+    ensures rules { rules.new ≡ rules.old }
     ensures same_runner { unit.new.runner.ghost_name ≡ unit.old.runner.ghost_name }
 {
     let Ok(path) = own_path(unit) else {
         return unit.out_of_memory();
     };
     match list(unit, &path) {
-        Told::Done => prune_listed(alloc, unit, &path),
+        Told::Done => prune_listed(alloc, unit, &path, rules),
         Told::Failed => unit.ended(Told::Failed),
         Told::Garbled(line) => unit.ended(Told::Garbled(line)),
         Told::NoMemory => unit.ended(Told::NoMemory),

@@ -70,6 +70,17 @@ impl Model for Rules {
     ghost invariant = { λ rules. All HasGrid (map spec_of rules.rules.items) };
 }
 
+impl Rules {
+    ghost use Rattle.std.specs.Prelude.{◌≡◌, [], Decides};
+
+    /// Whether there is no rule.
+    pub fn is_empty(&self) -> bool
+        ensures { Decides result (self.now ≡ []) }
+    {
+        self.rules.is_empty()
+    }
+}
+
 fn has_grid(spec: &RuleSpec) -> bool
     ensures { IsTrue result ↔ HasGrid spec.now }
 {

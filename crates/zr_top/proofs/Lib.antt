@@ -7,3 +7,4 @@ pub mod Outcomes
 pub mod Recording
 pub mod Rising
 pub mod Fronts
+pub mod Plain

@@ -13,6 +13,7 @@ pub mod laws;
 pub mod once;
 pub mod printing;
 pub mod report;
+pub mod rules;
 pub mod running;
 pub mod status;
 pub mod top;

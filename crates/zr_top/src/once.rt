@@ -2,6 +2,7 @@
 
 ghost use Rattle.std.specs.Prelude.{◌≡◌, ◌≤◌, ◌<◌, ◌^◌, All, IfErr, IfOk, List, length};
 ghost use Rattle.zr_base.specs.Count.{Rose};
+ghost use Rattle.zr_jobs.specs.Jobs.{all_rules};
 ghost use Rattle.zr_top.specs.Attempts.{Attempted, no_totals};
 ghost use Rattle.zr_top.specs.Due.{FaultsRose, joined, RanDue, ScansRan};
 ghost use Rattle.zr_top.specs.Units.{IsDueUnit};
@@ -10,6 +11,7 @@ use crate::running::{run_scan, run_unit};
 use std::alloc::{AllocError, Global};
 use zr_jobs::JobSet;
 use zr_names::{Moment, NoMemory, Outcome, Rows, Totals, Unit};
+use zr_rules::Rules;
 use zr_world::Zfs;
 
 /// The totals so far.
@@ -79,11 +81,14 @@ fn scan_all<Z: Zfs>(
 fn run_units<Z: Zfs>(
     alloc: Global,
     jobs: &JobSet,
+    rules: &mut [Rules],
     units: Vec<Unit>,
     tally: &mut Tally,
     runner: &mut Z,
 )
-    requires { All (IsDueUnit jobs.now) units.items }
+    requires due { All (IsDueUnit jobs.now) units.items }
+    requires rules { rules.old ≡ all_rules jobs.now }
+    ensures rules { rules.new ≡ rules.old }
     ensures ran { Attempted jobs.now units.items (Z.history runner.old) (Z.history runner.new)
         tally.old.totals tally.new.totals }
     ensures later { Z.faults runner.old ≤ Z.faults runner.new }
@@ -91,7 +96,7 @@ fn run_units<Z: Zfs>(
         (Z.faults runner.new) }
 {
     for unit in units {
-        let outcome = run_unit(alloc, jobs, unit, tally.next_run(), runner);
+        let outcome = run_unit(alloc, jobs, rules, unit, tally.next_run(), runner);
         tally.count(&outcome);
     }
 }
@@ -100,11 +105,14 @@ fn run_units<Z: Zfs>(
 fn run_all<Z: Zfs>(
     alloc: Global,
     jobs: &JobSet,
+    rules: &mut [Rules],
     found: Vec<Rows<Unit>>,
     tally: &mut Tally,
     runner: &mut Z,
 )
-    requires { All (All (IsDueUnit jobs.now)) found.items }
+    requires due { All (All (IsDueUnit jobs.now)) found.items }
+    requires rules { rules.old ≡ all_rules jobs.now }
+    ensures rules { rules.new ≡ rules.old }
     ensures ran { Attempted jobs.now (joined found.items) (Z.history runner.old)
         (Z.history runner.new)
         tally.old.totals tally.new.totals }
@@ -113,20 +121,22 @@ fn run_all<Z: Zfs>(
         (Z.faults runner.new) }
 {
     for units in found {
-        run_units(alloc, jobs, units.into_vec(), tally, runner);
+        run_units(alloc, jobs, rules, units.into_vec(), tally, runner);
     }
 }
 
 /// Runs all that is due at one moment: the scan of each job, and then the units that the scans found. No
 /// key of such a unit comes twice, so none is coalesced. With no moment nothing is due. Where there is no
-/// memory to begin, nothing is run.
+/// memory to begin, nothing is run. The rules are those of each job, compiled.
 pub fn once<Z: Zfs>(
     alloc: Global,
     jobs: &JobSet,
+    rules: &mut [Rules],
     moment: Option<Moment>,
     runner: &mut Z,
 ) -> Result<Totals, NoMemory>
     requires few { length jobs.now.jobs < 2 ^ 32 }
+    requires rules { rules.old ≡ all_rules jobs.now }
     ensures ran { IfOk result
         (λ totals. RanDue jobs.now moment (Z.history runner.old) (Z.history runner.new) totals) }
     ensures unbegun { IfErr result (λ fault. runner.new ≡ runner.old) }
@@ -141,6 +151,6 @@ pub fn once<Z: Zfs>(
     let Ok(found) = scan_all(alloc, jobs, moment, &mut tally, runner) else {
         return Err(NoMemory);
     };
-    run_all(alloc, jobs, found, &mut tally, runner);
+    run_all(alloc, jobs, rules, found, &mut tally, runner);
     Ok(tally.totals)
 }

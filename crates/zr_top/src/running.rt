@@ -3,7 +3,7 @@
 ghost use Rattle.std.specs.Prelude.{◌≡◌, ◌≤◌, ◌<◌, All, true, length};
 ghost use Rattle.zr_base.specs.Count.{Rose};
 ghost use Rattle.zr_names.specs.declared.unit.Work.TheVariants as work;
-ghost use Rattle.zr_jobs.specs.Jobs.{IsOfFile};
+ghost use Rattle.zr_jobs.specs.Jobs.{IsOfFile, all_rules, job_at, rules_of};
 ghost use Rattle.zr_permit.specs.Result.{is_child_fault};
 ghost use Rattle.zr_permit.specs.Runs.{Ran};
 ghost use Rattle.zr_permit.specs.Sight.{HasEnded, HasJustBegun, sight};
@@ -16,6 +16,7 @@ use zr_names::{Moment, Outcome, Unit, Work};
 use zr_permit::{Guarded, Unbegun};
 use zr_prune::prune;
 use zr_replicate::replicate;
+use zr_rules::Rules;
 use zr_snap::scan;
 use zr_world::Zfs;
 
@@ -61,16 +62,19 @@ pub fn run_scan<Z: Zfs>(
 }
 
 /// Does the work of a unit that has just begun.
-fn work<Z: Zfs>(alloc: Global, unit: &mut Guarded<'_, Z>) -> Outcome
+fn work<Z: Zfs>(alloc: Global, unit: &mut Guarded<'_, Z>, rules: &mut Rules) -> Outcome
+    requires rules { rules.old
+        ≡ rules_of (job_at (sight Z.Zfs unit.old).jobs (sight Z.Zfs unit.old).unit.job) }
     requires begun { HasJustBegun (sight Z.Zfs unit.old) }
     requires of_file { IsOfFile (sight Z.Zfs unit.old).jobs (sight Z.Zfs unit.old).unit }
     requires kind { IsDueWork (sight Z.Zfs unit.old).unit.work }
     ensures ended { HasEnded (sight Z.Zfs unit.old) (sight Z.Zfs unit.new) result }
+    ensures rules { rules.new ≡ rules.old }
     ensures same_runner { unit.new.runner.ghost_name ≡ unit.old.runner.ghost_name }
 {
     match unit.unit().work {
         Work::Replicate(_) => replicate(alloc, unit),
-        Work::PruneSource(_) => prune(alloc, unit),
+        Work::PruneSource(_) => prune(alloc, unit, rules),
         _ => unreachable!(),
     }
 }
@@ -79,19 +83,23 @@ fn work<Z: Zfs>(alloc: Global, unit: &mut Guarded<'_, Z>) -> Outcome
 pub fn run_unit<Z: Zfs>(
     alloc: Global,
     jobs: &JobSet,
+    rules: &mut [Rules],
     unit: Unit,
     run: u64,
     runner: &mut Z,
 ) -> Outcome
-    requires { IsDueUnit jobs.now unit }
+    requires due { IsDueUnit jobs.now unit }
+    requires rules { rules.old ≡ all_rules jobs.now }
+    ensures rules { rules.new ≡ rules.old }
     ensures ran { Ran jobs.now unit run (Z.history runner.old) (Z.history runner.new) result }
     ensures later { Z.faults runner.old ≤ Z.faults runner.new }
     ensures fault_rose { is_child_fault result ≡ true
         → Rose (Z.faults runner.old) (Z.faults runner.new) }
 {
+    let own = &mut rules[unit.job as usize];
     match Guarded::begin(alloc, unit, run, jobs, runner) {
         Ok(mut unit) => {
-            let outcome = work(alloc, &mut unit);
+            let outcome = work(alloc, &mut unit, own);
             let _legal = unit.transcript();
             let _back = unit.end();
             outcome

@@ -3,6 +3,7 @@
 ghost use Rattle.std.specs.Prelude.{◌⊎◌, drop, ◌≡◌, ◌≢◌, ◌≤◌, ◌<◌, ◌+◌, ◌^◌, ℕ, IfOk, List, Some, None, [], ◌∷◌, ◌++◌, codes, length, map, take, true, vec_len};
 ghost use Rattle.std.specs.String.{string_bytes};
 ghost use Rattle.zr_jobfile.specs.declared.TheConstants.{FILE_LIMIT};
+ghost use Rattle.zr_jobs.specs.Jobs.{ArePlain};
 ghost use Rattle.std.specs.Io.KnownBytes.{append_known};
 ghost use Rattle.zr_pipe.specs.Faults.{Rose};
 ghost use Rattle.zr_top.specs.Calls.{given, edges, Promises};
@@ -17,6 +18,7 @@ use crate::files::{Files, ReadFault};
 use crate::once::once;
 use crate::printing::{print, refuse};
 use crate::report::{USAGE, totals_line};
+use crate::rules::compile_all;
 use crate::status::Status;
 use crate::words::once_file;
 use std::alloc::Global;
@@ -36,6 +38,7 @@ fn once_with<R: Spawn, C: Clock + Drop>(
     mut clock: C,
 ) -> (Result<Totals, NoMemory>, R)
     requires few { length jobs.now.jobs < 2 ^ 32 }
+    requires plain { ArePlain jobs.now }
     ensures ran { RanOnce jobs.now (C.moments clock) (R.history child) (R.history result.1)
         result.0 }
     ensures rose { IfOk result.0
@@ -44,9 +47,12 @@ fn once_with<R: Spawn, C: Clock + Drop>(
     let Ok(program) = String::from_str(alloc, "zfs") else {
         return (Err(NoMemory), child);
     };
+    let Ok(mut rules) = compile_all(alloc, jobs) else {
+        return (Err(NoMemory), child);
+    };
     let moment = clock.tick();
     let mut zfs = CliZfs::new(child, program);
-    match once(alloc, jobs, moment, &mut zfs) {
+    match once(alloc, jobs, rules.as_mut_slice(), moment, &mut zfs) {
         Ok(totals) => (Ok(totals), zfs.spawn()),
         Err(fault) => (Err(fault), zfs.spawn()),
     }
@@ -61,6 +67,7 @@ fn once_with_first<R: Spawn + Drop, C: Clock + Drop>(
 ) -> Result<Totals, NoMemory>
     requires some { 0 < vec_len children.old }
     requires few { length jobs.now.jobs < 2 ^ 32 }
+    requires plain { ArePlain jobs.now }
     ensures len { vec_len children.new ≡ vec_len children.old }
     ensures first { FirstRan jobs.now (C.moments clock) (map (λ r. R.history r) children.old.items)
         (map (λ r. R.history r) children.new.items) result }
@@ -87,6 +94,7 @@ fn run_jobs<R: Spawn + Drop, C: Clock + Drop, S: Sink>(
 ) -> Status
     requires some { 0 < vec_len children.old }
     requires few { length jobs.now.jobs < 2 ^ 32 }
+    requires plain { ArePlain jobs.now }
     ensures len { vec_len children.new ≡ vec_len children.old }
     ensures of_run { is_of_run result ≡ true }
     ensures ran { (file : List ℕ) → Unrun file

@@ -5,7 +5,8 @@ use std::alloc::Global;
 use tests_lines::{Unread, ask_of, bytes_of, column, is_wanted, shown, text, told};
 use zr_filter::{Filter, FilterEntry};
 use zr_jobfile::{JobFault, read_jobs};
-use zr_jobs::{Destination, Job, JobSet, RuleSpec};
+use zr_jobs::{Destination, Job, JobSet};
+use zr_rules::RuleSpec;
 
 // Each part as a person writes it, and the snap job once more in one line.
 const FILE: &str = r#"[[jobs]]
@@ -236,9 +237,10 @@ fn push_entry(out: &mut String, entry: &FilterEntry) -> Result<(), Unread> {
     Ok(())
 }
 
-fn push_rule(out: &mut String, rule: RuleSpec) -> Result<(), Unread> {
+fn push_rule(out: &mut String, rule: &RuleSpec) -> Result<(), Unread> {
     match rule {
-        RuleSpec::LastN { count } => write!(out, "; keeps last {count}")?,
+        RuleSpec::LastN { count, regex: None } => write!(out, "; keeps last {count}")?,
+        _ => write!(out, "; keeps by another rule")?,
     }
     Ok(())
 }
@@ -260,7 +262,7 @@ fn push_entries(out: &mut String, filter: &Filter) -> Result<(), Unread> {
 
 fn push_rules(out: &mut String, rules: &[RuleSpec]) -> Result<(), Unread> {
     for rule in rules {
-        push_rule(out, *rule)?;
+        push_rule(out, rule)?;
     }
     Ok(())
 }

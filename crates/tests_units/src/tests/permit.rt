@@ -4,9 +4,10 @@ use super::is;
 use std::alloc::{AllocError, Global};
 use tests_pools::{Asked, before, number, path, rows_of, shown, written};
 use zr_base::Rows;
-use zr_jobs::{JobSet, RuleSpec};
-use zr_names::SnapName;
+use zr_jobs::JobSet;
+use zr_names::{SnapName, read_job};
 use zr_permit::doomed;
+use zr_rules::{RegexPatterns, RuleSpec, Rules, compile, have_grids};
 
 /// Rows; then the counts of `last_n` rules, and the snapshots that go, in one word.
 const BLOCKS: &str = "\
@@ -39,15 +40,23 @@ equal_creation: then the greater transaction group
 @q:11:11:100 @p:12:12:100 @r:13:13:200
   2 => q";
 
-fn rules_of(alloc: Global, counts: &str) -> Option<Vec<RuleSpec>> {
+fn specs_of(alloc: Global, counts: &str) -> Option<Vec<RuleSpec>> {
     let mut rules = Vec::new(alloc);
     if counts != "no rules" {
         for count in counts.split(' ') {
             let count = count.parse::<u32>().ok()?;
-            rules.push(RuleSpec::LastN { count }).ok()?;
+            rules.push(RuleSpec::LastN { count, regex: None }).ok()?;
         }
     }
     Some(rules)
+}
+
+fn rules_of(alloc: Global, counts: &str) -> Option<Rules> {
+    let specs = specs_of(alloc, counts)?;
+    if !have_grids(specs.as_slice()) {
+        return None;
+    }
+    compile(alloc, &mut RegexPatterns::new(alloc), specs.as_slice()).ok()
 }
 
 /// Names one behind the other, or `nothing`.
@@ -68,9 +77,11 @@ struct Listing<'a> {
 
 impl Asked for Listing<'_> {
     fn came(&mut self, alloc: Global, ask: &str) -> Option<String> {
-        let rules = rules_of(alloc, ask)?;
+        let mut rules = rules_of(alloc, ask)?;
         let rows = rows_of(alloc, self.text)?;
-        let names = doomed(alloc, rules.as_slice(), rows.as_slice());
+        let job = read_job(alloc, b"p").ok()?;
+        let names = doomed(alloc, &job, &mut rules, rows.as_slice());
+        drop(job);
         drop(rows);
         drop(rules);
         let names = names.ok()?;

@@ -1,7 +1,6 @@
 use Rattle.std.proofs.Common.{◌∙◌, ap, subst, sym, []}
 use Rattle.std.proofs.lemmas.List.{get_or_default}
 use Rattle.zr_command.specs.declared.command.Cmd.{Cmd}
-use Rattle.zr_command.specs.declared.command.Cmd.TheVariants as cmd
 use Rattle.zr_permit.specs.Sight.{sight}
 use Rattle.zr_permit.specs.Transcript.{Allowed}
 use Rattle.zr_prune.specs.Pruning.{destroy_one}

@@ -1,9 +1,7 @@
-use Rattle.std.proofs.Common.{◌≢◌, ◌∙◌, [], ℕ, ap, refl, subst}
+use Rattle.std.proofs.Common.{◌≢◌, ◌∙◌, ℕ, ap, refl}
 use Rattle.zr_names.specs.declared.unit.Unit.{Unit}
 use Rattle.zr_command.specs.declared.command.Cmd.TheVariants as cmd
 use Rattle.zr_permit.specs.declared.told.Told.TheVariants as told
-use Rattle.zr_permit.specs.Transcript.{Transcript}
-use Rattle.zr_permit.specs.Turned.{HasTurned}
 use Rattle.zr_permit.proofs.Ending.{at-work-more, begun-at-work, ended-on, turned-first, went-on}
 use Rattle.zr_prune.proofs.Alone.{prunes-alone}
 use Rattle.zr_prune.proofs.Steps.{listing-ended}

@@ -12,6 +12,7 @@ pub loop-units-init : goal.loop-units-init
 loop-units-init g c = record {
   left = search rules;
   ran = search (rules, run-none);
+  rules = search rules;
   later = omega arith;
   rose = rose-none c.args.tally.now.totals _ _;
 }
@@ -27,6 +28,7 @@ loop-units-preserved g c =
     record {
       left = All-rest (All (IsDueUnit jobs)) c.in-Some.units _ _ is inv.left;
       ran = run-joined jobs c.args.found.items _ _ c.in-Some.units _ _ _ _ _ _ inv.ran is (subst Ran c.into_vec.ensures ran.ran);
+      rules = search rules;
       later = omega (arith, inv.later, ran.later);
       rose = rose-then c.args.tally.now.totals c.loop-units.tally.totals c.run_units.new.tally.totals _ (g.Z.Zfs.faults c.loop-units.runner) _ inv.later ran.later inv.rose ran.rose;
     }

@@ -9,6 +9,7 @@ pub loop-unit-init : goal.loop-unit-init
 loop-unit-init g c = record {
   left = search rules;
   ran = search (rules, run-none);
+  rules = search rules;
   later = omega arith;
   rose = rose-none c.args.tally.now.totals _ _;
 }
@@ -24,6 +25,7 @@ loop-unit-preserved g c =
     record {
       left = All-rest (IsDueUnit jobs) c.in-Some.unit _ _ is inv.left;
       ran = run-more jobs _ _ _ c.in-Some.unit _ _ _ _ _ _ _ _ inv.ran is of_file c.next_run.ensures ran.ran c.count.ensures;
+      rules = search rules;
       later = omega (arith, inv.later, ran.later);
       rose =
           rose-then c.args.tally.now.totals c.loop-unit.tally.totals c.count.new.self.totals _ (faults c.loop-unit.runner) _ inv.later ran.later inv.rose (counted-rose c.run_unit-outcome.result c.loop-unit.tally.totals _ _ _ c.count.ensures ran.fault_rose);

@@ -1,4 +1,4 @@
-use Rattle.std.proofs.Common.{◌≤◌}
+use Rattle.std.proofs.Common.{◌≡◌, ◌≤◌}
 use Rattle.std.specs.List.{All}
 use Rattle.std.specs.Vec.Iter.{into_iter_items}
 use Rattle.zr_top.specs.Due.{FaultsRose, RunUpTo}
@@ -10,6 +10,7 @@ abbrev pub invariant-loop-unit : goal.invariant-loop-unit
 invariant-loop-unit g l = record {
   left : All (IsDueUnit l.jobs) (into_iter_items l.unit-iterator);
   ran : RunUpTo l.jobs l.fn.units.items (into_iter_items l.unit-iterator) (g.Z.Zfs.history l.fn.runner) (g.Z.Zfs.history l.runner) l.fn.tally.totals l.tally.totals;
+  rules : l.rules ≡ l.fn.rules;
   later : g.Z.Zfs.faults l.fn.runner ≤ g.Z.Zfs.faults l.runner;
   rose : FaultsRose l.fn.tally.totals l.tally.totals (g.Z.Zfs.faults l.fn.runner) (g.Z.Zfs.faults l.runner);
 }

@@ -1,7 +1,11 @@
 use Rattle.std.proofs.Common.{inl, refl}
 use Rattle.zr_top.proofs.Recording.{bytes-ran, no-jobs-unrun}
 use Rattle.zr_top.proofs.Refusing.{read-not-refused}
+use Rattle.zr_jobfile.proofs.Plain.{reads-plain}
 use Rattle.zr_top.proofs.top.run_file.Goals as goal
+
+pub run_jobs-requires-clause-plain : goal.run_jobs-requires-clause-plain
+run_jobs-requires-clause-plain g c = reads-plain c.args.bytes.now c.in-Ok.jobs c.in-Ok.ensures
 
 pub returns-in-Ok-clause-refused : goal.returns-in-Ok-clause-refused
 returns-in-Ok-clause-refused g c = λ refused.
