@@ -1,5 +1,5 @@
 -- What is not read as a name, a span or a cron text is none.
-use Rattle.std.proofs.Common.{◌≡◌, ◌≢◌, ◌≤◌, ◌*◌, ℕ, Bool, List, Option, Some, None, Result, Ok, Err, refl, sym, ap, arith, length}
+use Rattle.std.proofs.Common.{◌≡◌, ◌≢◌, ◌≤◌, ◌*◌, ℕ, Bool, List, Option, Some, None, Result, Ok, Err, refl, sym, ap, arith, length, inl, inr, codes}
 use Rattle.zr_grid.specs.Grammar.{Span}
 use Rattle.zr_grid.specs.Span.{ReadsSpan}
 use Rattle.zr_grid.specs.declared.span.SpanFault.{SpanFault}
@@ -11,7 +11,10 @@ use Rattle.zr_schedule.specs.declared.schedule.When.TheVariants.{Every, Cron}
 use Rattle.zr_schedule.specs.declared.spec.CronSpec.{CronSpec}
 use Rattle.zr_names.specs.Names.{name_is_bad}
 use Rattle.zr_names.specs.declared.names.TheConstants.{JOB_LIMIT}
-use Rattle.zr_jobwalk.specs.Texts.{IsEvery, IsMinutes, IsPrefix}
+use Rattle.zr_jobwalk.specs.declared.texts.Unread.{Unread}
+use Rattle.zr_jobwalk.specs.declared.texts.Unread.TheVariants.{Bad}
+use Rattle.zr_jobwalk.specs.declared.texts.Unread.TheVariants as unread
+use Rattle.zr_jobwalk.specs.Texts.{IsEvery, IsInterval, IsMinutes, IsPrefix, ReadsText}
 use Rattle.zr_names.specs.Names.{IsName, Reads}
 use Rattle.zr_names.specs.declared.reading.NameFault.{NameFault}
 use Rattle.zr_names.specs.declared.reading.NameFault.TheVariants.{Empty, BadByte, TooLong, NoMemory}
@@ -50,3 +53,13 @@ pub no_minutes : (text : List ℕ) (read : Result CronSpec CronFault) (fault : C
 no_minutes text read fault is only when minutes =
     let e = only minutes.spec minutes.minutes in
     cc
+
+no_interval : (text : List ℕ) → ¬ (text ≡ codes "manual") → ((when : When) → ¬ IsEvery text when) → (when : When) → ¬ IsInterval text when
+no_interval text other none when (inl manual) = other manual.0
+no_interval text other none when (inr every) = none when every
+
+-- a text that is not `manual` is an interval where it is a span
+pub spans_alone : (text : List ℕ) (read : Result When Unread) → ¬ (text ≡ codes "manual") → ReadsText IsEvery text read → ReadsText IsInterval text read
+spans_alone text (Ok when) other reads = inr reads
+spans_alone text (Err Bad) other reads = no_interval text other reads
+spans_alone text (Err unread.NoMemory) other reads = tt

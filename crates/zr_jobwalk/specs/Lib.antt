@@ -3,6 +3,8 @@ pub mod Tables
 pub mod Values
 pub mod Texts
 pub mod Faults
+pub mod Arrays
+pub mod Lines
 pub mod Connecting
 pub mod Replicating
 pub mod Snapshotting

@@ -10,7 +10,7 @@ use Rattle.zr_grid.specs.Grammar.{Span}
 use Rattle.zr_grid.specs.declared.span.TheConstants.{MAX_SPAN}
 use Rattle.zr_schedule.specs.Read.{IsCron}
 use Rattle.zr_schedule.specs.declared.schedule.When.{When}
-use Rattle.zr_schedule.specs.declared.schedule.When.TheVariants.{Every, Cron}
+use Rattle.zr_schedule.specs.declared.schedule.When.TheVariants.{Every, Cron, Never}
 use Rattle.zr_schedule.specs.declared.spec.CronSpec.{CronSpec}
 use Rattle.zr_jobs.specs.Identities.{IsIdentity}
 use Rattle.zr_jobwalk.specs.declared.texts.Unread.{Unread}
@@ -55,6 +55,10 @@ pub record IsEvery (text : List ℕ) (when : When) : Type 0 where
   pub span : Span seconds text
   pub short : seconds ≤ MAX_SPAN
   pub every : when ≡ Every (seconds * 1000)
+
+-- when a pull job fetches: by hand, or after each span
+abbrev pub IsInterval : List ℕ → When → Type 0
+IsInterval text when = ((text ≡ codes "manual") × (when ≡ Never)) ⊎ IsEvery text when
 
 -- the minutes of a cron text
 pub record IsMinutes (text : List ℕ) (when : When) : Type 0 where

@@ -3,9 +3,11 @@
 //! of the documentation: a key that is none of its fields first, then the fields.
 #![tactic(auto)]
 
+mod array;
 mod connecting;
 mod fault;
 mod field;
+mod line;
 mod name;
 mod replicating;
 mod scalars;
@@ -13,10 +15,13 @@ mod snapshotting;
 mod table;
 mod texts;
 
+pub use array::Array;
 pub use connecting::{Client, client_of, listener_of};
 pub use fault::{JobFault, Many};
 pub use field::Field;
+pub use line::Line;
 pub use name::DottedName;
 pub use replicating::{Guarantees, Replication, initial_of, replication_of};
 pub use snapshotting::{Taking, taking_of};
 pub use table::Table;
+pub use texts::Unread;

@@ -27,7 +27,7 @@ fn text_in(node: &Node) -> Option<&[u8]>
 }
 
 #[tactic(auto, using(crate::proofs::Trees::of_null, crate::proofs::Trees::of_flag, crate::proofs::Trees::of_number, crate::proofs::Trees::of_text, crate::proofs::Trees::of_map, crate::proofs::Trees::of_sequence, crate::proofs::Trees::of_other))]
-fn flag_in(node: &Node) -> Option<bool>
+pub(crate) fn flag_in(node: &Node) -> Option<bool>
     ensures { result ≡ flag_in (tree node.now) }
 {
     match node {
@@ -49,7 +49,7 @@ fn number_in(node: &Node) -> Option<u64>
 }
 
 #[tactic(auto, using(crate::proofs::Trees::of_null, crate::proofs::Trees::of_flag, crate::proofs::Trees::of_number, crate::proofs::Trees::of_text, crate::proofs::Trees::of_map, crate::proofs::Trees::of_sequence, crate::proofs::Trees::of_other))]
-fn table_in(node: &Node) -> Option<&[NodePair]>
+pub(crate) fn table_in(node: &Node) -> Option<&[NodePair]>
     ensures { option_map (λ pairs. members_tree pairs.now) result ≡ table_in (tree node.now) }
 {
     match node {
@@ -65,10 +65,10 @@ impl<'a> Table<'a> {
     ghost use Rattle.zr_jobwalk.specs.Faults.{HasFault, IsBad, NoTable, NoText, dotted, field_of};
     ghost use Rattle.zr_jobwalk.specs.Tables.{members_in, section};
     ghost use Rattle.zr_jobwalk.specs.Values.{Has, HasTable, HasText, IsFlag, IsNumber, IsText};
-    ghost use Rattle.zr_jobwalk.specs.Texts.{IsEvery, IsJobName, IsLocal, IsMinutes, IsPath, IsPrefix, NamesClient};
+    ghost use Rattle.zr_jobwalk.specs.Texts.{IsEvery, IsInterval, IsJobName, IsLocal, IsMinutes, IsPath, IsPrefix, NamesClient};
 
     /// The text of a field that has to be there.
-    pub(crate) fn text(&self, field: Field) -> Result<&'a [u8], JobFault>
+    pub fn text(&self, field: Field) -> Result<&'a [u8], JobFault>
         ensures text { IfOk result (λ text. HasText (field_of (section self.now) field) text.now) }
         ensures fault { IfErr result
             (λ fault. fault ≢ JobFault.NoMemory → HasFault NoText (section self.now) field fault) }
@@ -83,7 +83,7 @@ impl<'a> Table<'a> {
     }
 
     /// Why the text of a field was not taken.
-    pub(crate) fn unread(&self, field: Field, unread: Unread) -> JobFault
+    pub fn unread(&self, field: Field, unread: Unread) -> JobFault
         ensures bad { result ≢ JobFault.NoMemory → unread ≡ Unread.Bad }
         ensures told { result ≢ JobFault.NoMemory
             → result ≡ JobFault.BadValue (dotted (section self.now) field) }
@@ -108,7 +108,8 @@ impl<'a> Table<'a> {
         }
     }
 
-    pub(crate) fn job_name(&self, field: Field) -> Result<JobName, JobFault>
+    /// The name of a job or of a listener.
+    pub fn job_name(&self, field: Field) -> Result<JobName, JobFault>
         ensures name { IfOk result
             (λ name. Has (IsText IsJobName) (field_of (section self.now) field) name) }
         ensures fault { IfErr result (λ fault. fault ≢ JobFault.NoMemory
@@ -121,6 +122,7 @@ impl<'a> Table<'a> {
         }
     }
 
+    /// The name by which a server knows a client.
     pub(crate) fn identity(&self, field: Field) -> Result<Identity, JobFault>
         ensures name { IfOk result
             (λ name. Has (IsText NamesClient) (field_of (section self.now) field) name) }
@@ -147,18 +149,18 @@ impl<'a> Table<'a> {
     }
 
     /// Whether there is nothing for a field.
-    pub(crate) fn lacks(&self, field: Field) -> bool
+    pub fn lacks(&self, field: Field) -> bool
         ensures { result ≡ is_none (field_of (section self.now) field) }
     {
         self.given(field.name().as_bytes()).is_none()
     }
 
     /// The table of a field that has to be there.
-    pub(crate) fn table(&self, field: Field) -> Result<Table<'a>, JobFault>
+    pub fn table(&self, field: Field) -> Result<Table<'a>, JobFault>
         ensures members { IfOk result
             (λ table. HasTable (field_of (section self.now) field) (section table).members) }
         ensures front { IfOk result
-            (λ table. table.front ≡ dotted (section self.now) field ++ codes ".") }
+            (λ table. (section table).front ≡ dotted (section self.now) field ++ codes ".") }
         ensures fault { IfErr result
             (λ fault. fault ≢ JobFault.NoMemory → HasFault NoTable (section self.now) field fault) }
     {
@@ -186,7 +188,7 @@ impl<'a> Table<'a> {
     }
 
     /// A field that is true or false.
-    pub(crate) fn flag(&self, field: Field) -> Result<bool, JobFault>
+    pub fn flag(&self, field: Field) -> Result<bool, JobFault>
         ensures flag { IfOk result (λ flag. Has IsFlag (field_of (section self.now) field) flag) }
         ensures fault { IfErr result (λ fault. fault ≢ JobFault.NoMemory
             → HasFault (IsBad IsFlag) (section self.now) field fault) }
@@ -201,7 +203,7 @@ impl<'a> Table<'a> {
     }
 
     /// A field with a whole number from `low` to `high`.
-    pub(crate) fn number(&self, field: Field, low: u32, high: u32) -> Result<u32, JobFault>
+    pub fn number(&self, field: Field, low: u32, high: u32) -> Result<u32, JobFault>
         ensures number { IfOk result
             (λ n. Has (IsNumber low high) (field_of (section self.now) field) n) }
         ensures fault { IfErr result (λ fault. fault ≢ JobFault.NoMemory
@@ -231,7 +233,7 @@ impl<'a> Table<'a> {
     }
 
     /// The path of a dataset.
-    pub(crate) fn path(&self, field: Field) -> Result<Path, JobFault>
+    pub fn path(&self, field: Field) -> Result<Path, JobFault>
         ensures value { IfOk result
             (λ value. Has (IsText IsPath) (field_of (section self.now) field) value) }
         ensures fault { IfErr result (λ fault. fault ≢ JobFault.NoMemory
@@ -239,6 +241,20 @@ impl<'a> Table<'a> {
     {
         let text = self.text(field)?;
         match texts::path(self.alloc, text) {
+            Ok(value) => Ok(value),
+            Err(unread) => Err(self.unread(field, unread)),
+        }
+    }
+
+    /// An interval, or `manual`.
+    pub fn interval(&self, field: Field) -> Result<When, JobFault>
+        ensures value { IfOk result
+            (λ value. Has (IsText IsInterval) (field_of (section self.now) field) value) }
+        ensures fault { IfErr result (λ fault. fault ≢ JobFault.NoMemory
+            → HasFault (IsBad (IsText IsInterval)) (section self.now) field fault) }
+    {
+        let text = self.text(field)?;
+        match texts::interval(text) {
             Ok(value) => Ok(value),
             Err(unread) => Err(self.unread(field, unread)),
         }

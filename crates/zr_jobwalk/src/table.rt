@@ -20,20 +20,20 @@ pub struct Table<'a> {
     pub(crate) pairs: &'a [NodePair],
 }
 
-fn key_of(pair: &NodePair) -> &[u8]
+pub(crate) fn key_of(pair: &NodePair) -> &[u8]
     ensures { result.now ≡ (pair_tree pair.now).0 }
 {
     pair.key.as_bytes()
 }
 
-fn node_of(pair: &NodePair) -> &Node
+pub(crate) fn node_of(pair: &NodePair) -> &Node
     ensures { tree result.now ≡ (pair_tree pair.now).1 }
 {
     &pair.node
 }
 
 #[tactic(auto, using(crate::proofs::Trees::of_null, crate::proofs::Trees::of_flag, crate::proofs::Trees::of_number, crate::proofs::Trees::of_text, crate::proofs::Trees::of_map, crate::proofs::Trees::of_sequence, crate::proofs::Trees::of_other))]
-fn is_null(node: &Node) -> bool
+pub(crate) fn is_null(node: &Node) -> bool
     ensures { result ≡ is_null (tree node.now) }
 {
     match node {
@@ -56,6 +56,11 @@ impl<'a> Table<'a> {
     ghost use Rattle.zr_jobwalk.specs.Fields.{given, least, shown, strangers};
     ghost use Rattle.zr_jobwalk.specs.Faults.{HasStranger, dotted};
     ghost use Rattle.zr_jobwalk.specs.Tables.{section};
+
+    /// Where the names of the table's fields, and what is read from it, are allocated.
+    pub fn alloc(&self) -> Global {
+        self.alloc
+    }
 
     /// What the table gives for a key.
     pub(crate) fn given(&self, key: &[u8]) -> Option<&'a Node>
@@ -84,14 +89,15 @@ impl<'a> Table<'a> {
         least
     }
 
-    pub(crate) fn dotted(&self, field: Field) -> Result<DottedName, AllocError>
+    /// The dotted name of a field.
+    pub fn dotted(&self, field: Field) -> Result<DottedName, AllocError>
         ensures { IfOk result (λ name. name ≡ dotted (section self.now) field) }
     {
         self.front.with(self.alloc, field.name())
     }
 
     /// That this field is missing.
-    pub(crate) fn missing(&self, field: Field) -> JobFault
+    pub fn missing(&self, field: Field) -> JobFault
         ensures { result ≢ JobFault.NoMemory
             → result ≡ JobFault.Missing (dotted (section self.now) field) }
     {
@@ -102,11 +108,22 @@ impl<'a> Table<'a> {
     }
 
     /// That the value of this field is of the wrong type or outside its rule.
-    pub(crate) fn bad_value(&self, field: Field) -> JobFault
+    pub fn bad_value(&self, field: Field) -> JobFault
         ensures { result ≢ JobFault.NoMemory
             → result ≡ JobFault.BadValue (dotted (section self.now) field) }
     {
         match self.dotted(field) {
+            Ok(name) => JobFault::BadValue(name),
+            Err(_) => JobFault::NoMemory,
+        }
+    }
+
+    /// That the value of a key that may have any bytes, or the key itself, is outside its rule.
+    pub fn bad_key(&self, key: &[u8]) -> JobFault
+        ensures { result ≢ JobFault.NoMemory
+            → result ≡ JobFault.BadValue ((section self.now).front ++ shown key.now) }
+    {
+        match self.front.with_key(self.alloc, key) {
             Ok(name) => JobFault::BadValue(name),
             Err(_) => JobFault::NoMemory,
         }
@@ -123,7 +140,7 @@ impl<'a> Table<'a> {
     }
 
     /// Refuses a table that has other fields than these.
-    pub(crate) fn has_only(&self, fields: &[Field]) -> Result<(), JobFault>
+    pub fn has_only(&self, fields: &[Field]) -> Result<(), JobFault>
         ensures known { OnOk result (strangers fields.now (section self.now).members ≡ []) }
         ensures fault { IfErr result
             (λ fault. fault ≢ JobFault.NoMemory → HasStranger fields.now (section self.now) fault) }

@@ -1,7 +1,7 @@
 //! The texts that fields take, read each by the reader of its type. Apart from the tables, which only ask whether a text
 //! is good.
 
-ghost use Rattle.zr_jobwalk.specs.Texts.{IsEvery, IsInitial, IsJobName, IsLocal, IsMinutes, IsPath, IsPrefix, IsProtection, NamesClient, ReadsText};
+ghost use Rattle.zr_jobwalk.specs.Texts.{IsEvery, IsInitial, IsInterval, IsJobName, IsLocal, IsMinutes, IsPath, IsPrefix, IsProtection, NamesClient, ReadsText};
 
 use std::alloc::Global;
 use zr_grid::{SpanFault, read_span};
@@ -109,6 +109,15 @@ pub(crate) fn every(text: &[u8]) -> Result<When, Unread>
         Ok(seconds) => Ok(When::Every(seconds * 1000)),
         Err(SpanFault::BadSpan(_) | SpanFault::SpanTooBig) => Err(Unread::Bad),
     }
+}
+
+pub(crate) fn interval(text: &[u8]) -> Result<When, Unread>
+    ensures { ReadsText IsInterval text.now result }
+{
+    if text == b"manual".as_slice() {
+        return Ok(When::Never);
+    }
+    every(text)
 }
 
 #[tactic(auto, using(crate::proofs::NoTexts::minutes_are))]

@@ -1,15 +1,15 @@
 //! The tables of a job: what each gives, or its first fault. A line has the field of a job and what stands in the job, as
 //! YAML. Answers were worked out by hand from the documentation of a job file.
 
+use super::shown::{fault_text, node};
 use std::alloc::Global;
-use tests_lines::{Unread, ask_of, bytes_of, is_wanted, shown, text, told};
+use tests_lines::{Unread, ask_of, is_wanted, shown, text, told};
 use zr_jobwalk::{
-    Client, JobFault, Replication, Table, Taking, client_of, initial_of, listener_of,
-    replication_of, taking_of,
+    Client, Replication, Table, Taking, client_of, initial_of, listener_of, replication_of,
+    taking_of,
 };
-use zr_names::{Initial, JobName, Node, Protection};
+use zr_names::{Initial, JobName, Protection};
 use zr_schedule::When;
-use zr_yaml::read_yaml;
 
 const CASES: &str = r"
 # the end of a client
@@ -124,7 +124,7 @@ connect - a => missing connect
 connect 1 => missing connect
 replication - a => resumability resumability 1 false";
 
-fn protection_name(protection: Protection) -> &'static str {
+pub(super) fn protection_name(protection: Protection) -> &'static str {
     match protection {
         Protection::Resumability => "resumability",
         Protection::Incremental => "incremental",
@@ -132,7 +132,7 @@ fn protection_name(protection: Protection) -> &'static str {
     }
 }
 
-fn initial_name(initial: Initial) -> &'static str {
+pub(super) fn initial_name(initial: Initial) -> &'static str {
     match initial {
         Initial::MostRecent => "most recent",
         Initial::All => "all",
@@ -163,20 +163,6 @@ fn taking_text(alloc: Global, taking: &Taking) -> Result<String, Unread> {
         When::Every(ms) => Ok(format!(in alloc; "{prefix} every {ms}")?),
         When::Cron(_) => Ok(format!(in alloc; "{prefix} cron")?),
     }
-}
-
-fn fault_text(alloc: Global, fault: &JobFault) -> Result<String, Unread> {
-    let (word, name) = match fault {
-        JobFault::Missing(name) => ("missing", name),
-        JobFault::BadValue(name) => ("bad value", name),
-        JobFault::UnknownField(name) => ("unknown field", name),
-        JobFault::BadRegex(name) => ("bad regex", name),
-        JobFault::NotToml | JobFault::Check(_) | JobFault::TooMany(_) | JobFault::NoMemory => {
-            return Err(Unread);
-        }
-    };
-    let name = name.as_str();
-    Ok(format!(in alloc; "{word} {name}")?)
 }
 
 fn connected(alloc: Global, job: &Table<'_>) -> Result<String, Unread> {
@@ -211,13 +197,6 @@ fn taken(alloc: Global, job: &Table<'_>) -> Result<String, Unread> {
     match taking_of(job) {
         Ok(taking) => taking_text(alloc, &taking),
         Err(fault) => fault_text(alloc, &fault),
-    }
-}
-
-fn node(alloc: Global, yaml: &str) -> Result<Node, Unread> {
-    match read_yaml(alloc, bytes_of(alloc, yaml)?.as_slice()) {
-        Ok(node) => Ok(node),
-        Err(_) => Err(Unread),
     }
 }
 

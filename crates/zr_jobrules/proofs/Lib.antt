@@ -1,0 +1,4 @@
+pub mod Grids
+pub mod Entries
+pub mod Lines
+pub mod Refusals

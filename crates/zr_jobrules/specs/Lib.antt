@@ -1,0 +1,4 @@
+pub mod Patterns
+pub mod Rules
+pub mod Pruning
+pub mod Filesystems

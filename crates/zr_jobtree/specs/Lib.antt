@@ -1,0 +1,5 @@
+pub mod Kinds
+pub mod Copying
+pub mod Jobs
+pub mod Roots
+pub mod Walks
