@@ -5,6 +5,7 @@ mod calls;
 mod clocks;
 mod cuts;
 mod faults;
+mod groups;
 mod lengths;
 
 use std::alloc::Global;
@@ -135,6 +136,8 @@ enum Course<'a> {
     Length,
     /// So many datasets or snapshots.
     Many,
+    /// A prune of so many snapshots.
+    Groups,
 }
 
 /// What comes of a question. A function and no trait's method: the bounds on the runtime stand here.
@@ -150,6 +153,7 @@ fn came<R: Abort + Threads + Wait + Sync>(
         Course::Script => faults::script(rt, alloc, ask),
         Course::Length => lengths::job(rt, alloc, ask),
         Course::Many => lengths::many(rt, alloc, ask),
+        Course::Groups => groups::prune(rt, alloc, ask),
     }
 }
 

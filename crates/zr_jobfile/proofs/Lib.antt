@@ -3,3 +3,4 @@ pub mod Patterns
 pub mod Shapes
 pub mod Documents
 pub mod Plain
+pub mod Checked

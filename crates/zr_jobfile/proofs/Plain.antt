@@ -6,8 +6,8 @@ use Rattle.std.proofs.lemmas.List.Elements.{All-cons, All-nil}
 use Rattle.zr_filter.specs.declared.entry.FilterEntry.{FilterEntry}
 use Rattle.zr_rules.specs.declared.rule.RuleSpec.{RuleSpec}
 use Rattle.zr_rules.specs.declared.rule.RuleSpec.TheVariants.{LastN}
-use Rattle.zr_jobs.specs.declared.job.JobSet.{JobSet}
-use Rattle.zr_jobs.specs.Jobs.{ArePlain, IsPlain}
+use Rattle.zr_jobset.specs.Sets.{Jobs}
+use Rattle.zr_jobset.specs.Units.{ArePlain, IsPlain}
 use Rattle.zr_jobfile.specs.JobFile.{ReadsJobs}
 use Rattle.zr_jobfile.specs.PushFile.{pushing, PushJob, SinkJob}
 use Rattle.zr_jobfile.specs.SnapFile.{one_job}
@@ -19,8 +19,9 @@ one-plain rules plain = All-cons (All IsPlain) rules [] plain (All-nil (All IsPl
 last-plain : (count : ℕ) → All IsPlain (LastN count None ∷ [])
 last-plain count = All-cons IsPlain (LastN count None) [] (record { no_pattern = refl; grid = tt }) (All-nil IsPlain)
 
-pub reads-plain : (bytes : List ℕ) (jobs : JobSet) → ReadsJobs bytes (Ok jobs) → ArePlain jobs
+pub reads-plain : (bytes : List ℕ) (jobs : Jobs) → ReadsJobs bytes (Ok jobs) → ArePlain jobs
 reads-plain bytes jobs (tree, text, inl snap) =
     subst ArePlain (sym snap.jobs_are) (one-plain (LastN snap.count None ∷ []) (last-plain snap.count))
 reads-plain bytes jobs (tree, text, inr push) =
-    subst ArePlain (sym push.jobs_are) (one-plain [] (All-nil IsPlain))
+    let none : All IsPlain [] = All-nil IsPlain in
+    subst ArePlain (sym push.jobs_are) (All-cons (All IsPlain) [] ([] ∷ []) none (one-plain [] none))

@@ -1,15 +1,17 @@
 -- A job file with a push job and, behind it, the sink job that it pushes to.
-use Rattle.std.specs.Prelude.{◌≡◌, ◌≢◌, ℕ, true, false, codes, List, [], ◌∷◌, Some}
+use Rattle.std.specs.Prelude.{◌≡◌, ℕ, true, false, codes, List, [], ◌∷◌, Some, None}
 use Rattle.toml.specs.Data.{Data, string, array, table, no_items, item, Members, no_members, member}
 use Rattle.zr_names.specs.declared.names.TheConstants.{JOB_LIMIT, PATH_LIMIT}
 use Rattle.zr_names.specs.Names.{IsName, name_is_bad, path_is_bad}
 use Rattle.zr_filter.specs.declared.filter.Filter.{Filter}
-use Rattle.zr_filter.specs.Rule.{is_within}
 use Rattle.zr_jobs.specs.Identities.{IsIdentity}
-use Rattle.zr_jobs.specs.declared.target.Destination.{Destination}
-use Rattle.zr_jobs.specs.declared.target.Destination.TheVariants.{Push}
-use Rattle.zr_jobs.specs.declared.job.JobSet.{JobSet}
-use Rattle.zr_jobfile.specs.Trees.{filter_tree, job_end, type_end}
+use Rattle.zr_jobset.specs.Checks.{IsAccepted}
+use Rattle.zr_jobset.specs.Sets.{Jobs, set_of}
+use Rattle.zr_jobset.specs.declared.job.Job.{Job}
+use Rattle.zr_jobset.specs.declared.job.JobKind.TheVariants.{Push, Sink}
+use Rattle.zr_schedule.specs.declared.schedule.When.TheVariants.{Never}
+use Rattle.zr_jobfile.specs.SnapFile.{sole}
+use Rattle.zr_jobfile.specs.Trees.{default_policy, filter_tree, job_end, type_end}
 
 -- what is free in a push job
 pub record PushJob : Type 0 where
@@ -83,34 +85,80 @@ two_jobs_file first second = member (codes "jobs") (two_items first second) no_m
 abbrev pub push_file : PushJob → SinkJob → Members
 push_file push sink = two_jobs_file (push_tree push) (sink_tree sink)
 
--- the names are good, the push job finds the sink's listener, and what it sends is not in the sink's root
-pub record ArePaired (push : PushJob) (sink : SinkJob) : Type 0 where
-  pub push_name : IsName name_is_bad JOB_LIMIT push.name
-  pub sink_name : IsName name_is_bad JOB_LIMIT sink.name
-  pub names_differ : push.name ≢ sink.name
-  pub listener : IsName name_is_bad JOB_LIMIT push.listener
-  pub same_listener : push.listener ≡ sink.listener
-  pub identity : IsIdentity push.identity
-  pub path : IsName path_is_bad PATH_LIMIT push.path
-  pub root : IsName path_is_bad PATH_LIMIT sink.root
-  pub outside_root : is_within sink.root push.path ≡ false
-
 -- the filter that matches this filesystem alone
 abbrev pub only_path : List ℕ → Filter
-only_path path = record { entries = record { path = Some path; subtree = false; allow = true } ∷ [] }
+only_path path = sole (record { path = Some path; subtree = false; allow = true })
 
--- one job of this name with this filter, which pushes to this destination and prunes nothing
-abbrev pub one_push : List ℕ → Filter → Destination → JobSet
-one_push name filter place = record {
-  jobs = record { name = name; filter = filter; keep_source = []; destination = Some place } ∷ [];
+-- the job of a push job's table: it pushes one filesystem and prunes nothing
+abbrev pub push_job : PushJob → Job
+push_job job = record {
+  kind = Push;
+  filter = only_path job.path;
+  when = Never;
+  prefix = None;
+  root = None;
+  listener = Some job.listener;
+  identity = Some job.identity;
+  policy = default_policy;
+  steps = 1;
+  migrate = false;
+  keep_source = [];
+  keep_target = [];
 }
 
--- the one job of a push job and its sink job: it pushes to the sink's root, below the client's identity
-abbrev pub pushing : PushJob → SinkJob → JobSet
-pushing push sink = one_push push.name (only_path push.path) (Push sink.root push.identity)
+-- the job of a sink job's table
+abbrev pub sink_job : SinkJob → Job
+sink_job job = record {
+  kind = Sink;
+  filter = record { entries = [] };
+  when = Never;
+  prefix = None;
+  root = Some job.root;
+  listener = Some job.listener;
+  identity = None;
+  policy = default_policy;
+  steps = 1;
+  migrate = false;
+  keep_source = [];
+  keep_target = [];
+}
+
+abbrev pub pair_names : PushJob → SinkJob → List (List ℕ)
+pair_names push sink = push.name ∷ sink.name ∷ []
+
+abbrev pub pair_jobs : PushJob → SinkJob → List Job
+pair_jobs push sink = push_job push ∷ sink_job sink ∷ []
+
+-- what is free in a push job is of its form
+pub record IsGoodPush (push : PushJob) : Type 0 where
+  pub listener : IsName name_is_bad JOB_LIMIT push.listener
+  pub identity : IsIdentity push.identity
+  pub path : IsName path_is_bad PATH_LIMIT push.path
+
+-- the same of a sink job
+pub record IsGoodSink (sink : SinkJob) : Type 0 where
+  pub listener : IsName name_is_bad JOB_LIMIT sink.listener
+  pub root : IsName path_is_bad PATH_LIMIT sink.root
+
+-- the names of both
+pub record AreGoodNames (push : PushJob) (sink : SinkJob) : Type 0 where
+  pub of_push : IsName name_is_bad JOB_LIMIT push.name
+  pub of_sink : IsName name_is_bad JOB_LIMIT sink.name
+
+-- all that is free is of its form, and no check of the set of both jobs refuses them: the names differ, the push job finds
+-- the sink's listener, and what it sends is not in the sink's root
+pub record ArePaired (push : PushJob) (sink : SinkJob) : Type 0 where
+  pub names : AreGoodNames push sink
+  pub good_push : IsGoodPush push
+  pub good_sink : IsGoodSink sink
+  pub accepted : IsAccepted (pair_names push sink) (pair_jobs push sink)
+
+-- the jobs of a push job and its sink job
+abbrev pub pushing : PushJob → SinkJob → Jobs
+pushing push sink = set_of (pair_names push sink) (pair_jobs push sink)
 
 -- the tree is that of a push job file, and these are its jobs
-pub record IsPushFile (tree : Members) (jobs : JobSet) : Type 0 where
+pub record IsPushFile (tree : Members) (jobs : Jobs) : Type 0 where
   pub push : PushJob
   pub sink : SinkJob
   pub tree_is : tree ≡ push_file push sink

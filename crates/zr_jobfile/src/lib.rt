@@ -11,9 +11,9 @@ mod shape;
 mod snap_shape;
 
 pub use nodes::node_of;
-use std::alloc::{AllocError, Global};
+use std::alloc::{AllocError, AllocFailed, Global};
 use toml::table_from_slice;
-use zr_jobs::JobSet;
+use zr_jobset::JobSet;
 
 /// The longest job file, in bytes.
 pub const FILE_LIMIT: usize = 1_048_576;
@@ -41,10 +41,20 @@ impl From<AllocError> for JobFault {
     }
 }
 
+impl<T: Drop> From<AllocFailed<T>> for JobFault {
+    ghost use Rattle.std.specs.Prelude.{◌≡◌};
+    ghost use Rattle.zr_jobfile.specs.declared.JobFault.TheVariants.{NoMemory};
+
+    ghost from_gives = { λ _ fault. fault ≡ NoMemory };
+
+    fn from(_error: AllocFailed<T>) -> JobFault {
+        JobFault::NoMemory
+    }
+}
+
 /// Reads a job file, as the documentation of zrepl writes it: with one snap job ("Job Type snap"), which has one
 /// filesystem pattern, manual snapshotting, and one rule `last_n`; or with a push job of one filesystem, manual
 /// snapshotting and no rules, and behind it the sink job whose listener it connects to ("Job Types push & sink").
-/// A push job and its sink are one job, that of the push.
 pub fn read_jobs(alloc: Global, bytes: &[u8]) -> Result<JobSet, JobFault>
     ensures { ReadsJobs bytes.now result }
 {

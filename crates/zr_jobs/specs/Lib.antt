@@ -1,3 +1,2 @@
 pub mod Identities
-pub mod Jobs
 pub mod Targets

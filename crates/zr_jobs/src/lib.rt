@@ -1,13 +1,11 @@
-//! The jobs of a file: what each works on, what it keeps, and where it puts what it replicates.
+//! Where a job puts what it replicates: the identity of a client, destinations, and the targets of sources.
 #![tactic(auto)]
 
 pub use identity::{Identity, IdentityFault, read_identity};
-pub use job::{Job, JobSet};
 pub use pair::Pair;
 pub use target::{Destination, LONGEST_PATH, TargetFault, target_length, target_of};
 
 pub mod identity;
-pub mod job;
 pub mod laws;
 pub mod pair;
 pub mod target;

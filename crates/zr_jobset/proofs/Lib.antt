@@ -1,2 +1,4 @@
 pub mod Passing
 pub mod Servers
+pub mod Pairs
+pub mod OfFile

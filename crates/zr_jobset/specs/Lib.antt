@@ -3,3 +3,4 @@ pub mod Fields
 pub mod Checks
 pub mod Sets
 pub mod Places
+pub mod Units

@@ -84,7 +84,8 @@ fn is_resumability(protection: Protection) -> bool
     }
 }
 
-fn is_default(policy: Policy) -> bool
+/// Whether a job with this policy replicates as by default.
+pub(crate) fn is_default(policy: Policy) -> bool
     ensures { result ≡ is_default policy }
 {
     is_most_recent(policy.initial) && is_resumability(policy.first) && is_resumability(policy.later)

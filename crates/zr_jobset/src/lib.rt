@@ -9,6 +9,7 @@ mod fields;
 mod job;
 mod places;
 mod set;
+mod units;
 
 pub use checking::{CheckFault, check};
 pub use checks::Check;

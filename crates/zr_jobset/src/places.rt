@@ -41,7 +41,8 @@ fn filter_or<'a>(own: &'a Filter, server: Option<&'a Job>) -> &'a Filter
     }
 }
 
-fn filter_in<'a>(jobs: &'a [Job], job: &'a Job) -> &'a Filter
+/// The filter by which a job of these goes.
+pub(crate) fn filter_in<'a>(jobs: &'a [Job], job: &'a Job) -> &'a Filter
     ensures { result.now ≡ filter_of jobs.now job.now }
 {
     if job.kind.is_pull() {
@@ -69,6 +70,13 @@ fn root_of_server(server: Option<&Job>) -> Option<&Path>
         Some(server) => server.root.as_ref(),
         None => None,
     }
+}
+
+/// The root of the sink to which a job pushes.
+pub(crate) fn push_root<'a>(jobs: &'a [Job], job: &Job) -> Option<&'a Path>
+    ensures { option_copied result ≡ root_of_server (server_of jobs.now job.now.listener) }
+{
+    root_of_server(server_of(jobs, &job.listener))
 }
 
 /// An identity reads as itself, so the one fault is want of memory.
@@ -116,8 +124,7 @@ fn place_of(alloc: Global, jobs: &[Job], job: &Job) -> Result<Option<Destination
     ensures { IfOk result (λ place. place ≡ place_of jobs.now job.now) }
 {
     if job.kind.is_push() {
-        let root = root_of_server(server_of(jobs, &job.listener));
-        pushed_to(alloc, root, &job.identity)
+        pushed_to(alloc, push_root(jobs, job), &job.identity)
     } else if job.kind.is_pull() {
         pulled_to(&job.root)
     } else {
@@ -125,7 +132,12 @@ fn place_of(alloc: Global, jobs: &[Job], job: &Job) -> Result<Option<Destination
     }
 }
 
-fn place_at(alloc: Global, set: &JobSet, job: u32) -> Result<Option<Destination>, NoMemory>
+/// Where the job of this number puts what it replicates, if it does.
+pub(crate) fn place_at(
+    alloc: Global,
+    set: &JobSet,
+    job: u32,
+) -> Result<Option<Destination>, NoMemory>
     ensures place { IfOk result (λ place. place ≡ place_at set.now job) }
     ensures checked { IsChecked set.now }
 {

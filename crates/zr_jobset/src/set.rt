@@ -42,7 +42,8 @@ impl JobSet {
     }
 
     pub fn names(&self) -> &[JobName]
-        ensures { result.now ≡ self.now.names }
+        ensures names { result.now ≡ self.now.names }
+        ensures checked { IsChecked self.now }
     {
         self.names.as_slice()
     }

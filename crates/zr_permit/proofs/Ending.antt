@@ -11,7 +11,7 @@ use Rattle.zr_names.specs.declared.unit.Unit.{Unit}
 use Rattle.zr_command.specs.declared.command.Answer.{Answer}
 use Rattle.zr_command.specs.declared.command.Answer.TheVariants as answer
 use Rattle.zr_command.specs.declared.command.Cmd.{Cmd}
-use Rattle.zr_jobs.specs.declared.job.JobSet.{JobSet}
+use Rattle.zr_jobset.specs.Sets.{Jobs}
 use Rattle.zr_permit.specs.declared.told.Told.{Told}
 use Rattle.zr_permit.specs.declared.told.Told.TheVariants as told
 use Rattle.zr_permit.specs.Result.{capped, ended_as, is_child_fault, ResultOf, WantsMemory}
@@ -78,7 +78,7 @@ wants-run unit_work before after command goes (inl same) =
 wants-run unit_work before after command goes (inr turns) = wants-more unit_work before after command goes turns
 
 -- a command that was not done ends its unit with a result
-pub ended-result : (jobs : JobSet) (unit : Unit) (before after : Transcript) (command : Cmd) (given : Told) → All (λ turn. GoesOn unit.work turn.0 turn.1) before → Turns before after command given → given ≢ told.Done → (given ≡ told.Failed → GoesOn unit.work command answer.Failed → ⊥) → ResultOf jobs unit after (ended_as (length after) given)
+pub ended-result : (jobs : Jobs) (unit : Unit) (before after : Transcript) (command : Cmd) (given : Told) → All (λ turn. GoesOn unit.work turn.0 turn.1) before → Turns before after command given → given ≢ told.Done → (given ≡ told.Failed → GoesOn unit.work command answer.Failed → ⊥) → ResultOf jobs unit after (ended_as (length after) given)
 ended-result jobs unit before after command told.Done goes turns undone ends = absurd (undone refl)
 ended-result jobs unit before after command told.NoMemory goes turns undone ends = wants-run unit.work before after command goes turns
 ended-result jobs unit before after command told.Failed goes turns undone ends = record {
@@ -138,7 +138,7 @@ rose-later first before now later rose = omega (arith, later, rose)
 -- what went on has ended
 pub ended-on : (first before now : Sight) (ended : Outcome) → Went first before → Follows first before → HasEnded before now ended → HasEnded first now ended
 ended-on first before now ended went follows has =
-    let by_jobs : JobSet → Type 0 = λ jobs. ResultOf jobs before.unit now.turns ended in
+    let by_jobs : Jobs → Type 0 = λ jobs. ResultOf jobs before.unit now.turns ended in
     let by_unit : Unit → Type 0 = λ unit. ResultOf first.jobs unit now.turns ended in
     record {
       went = went-on first before now went has.went;

@@ -12,11 +12,11 @@ use Rattle.zr_command.specs.declared.command.Cmd.TheVariants as cmd
 use Rattle.zr_command.specs.declared.command.Reply.TheVariants as reply
 use Rattle.zr_command.specs.declared.version.VersionName.TheVariants.{Snap}
 use Rattle.zr_command.specs.declared.version.VersionRow.{VersionRow}
-use Rattle.zr_jobs.specs.declared.job.JobSet.{JobSet}
+use Rattle.zr_jobset.specs.Sets.{Jobs}
 use Rattle.zr_rules.specs.declared.rule.RuleSpec.{RuleSpec}
 use Rattle.zr_rules.specs.Keeps.{retained}
 use Rattle.zr_permit.specs.Honest.{IsHonest, MayGo, rules_by, WasListed}
-use Rattle.zr_jobs.specs.Jobs.{job_at, name_of, pair_of, rules_of}
+use Rattle.zr_jobset.specs.Units.{name_of, pair_of, rules_of}
 use Rattle.zr_jobs.specs.declared.pair.Pair.{Pair}
 use Rattle.zr_permit.specs.Keep.{cursor_txg, doomed, going_from, gone, rule_row, snaps_of, text_of}
 use Rattle.zr_permit.proofs.Dooming.{snap-named}
@@ -128,7 +128,7 @@ doomed-may job (rule ∷ rules) rows name within =
     from-may job (rule ∷ rules) rows [] rows name (omega arith) refl within
 
 -- each turn of a legal transcript was allowed after those before it
-legal-at : (jobs : JobSet) (unit : Unit) (before past : Transcript) (turn : Turn) (later : Transcript) → LegalAfter jobs unit before (past ++ turn ∷ later) → Allowed jobs unit (before ++ past) turn.0
+legal-at : (jobs : Jobs) (unit : Unit) (before past : Transcript) (turn : Turn) (later : Transcript) → LegalAfter jobs unit before (past ++ turn ∷ later) → Allowed jobs unit (before ++ past) turn.0
 legal-at jobs unit before [] turn later legal =
     let allows : Transcript → Type 0 = λ ts. Allowed jobs unit ts turn.0 in
     subst allows (sym (append-nil before)) legal.0
@@ -142,23 +142,23 @@ no-destroy None past path names replicates = replicates
 no-destroy (Some pair) past path names replicates = replicates
 
 -- a destroy is permitted by a listing alone
-permits-listed : (jobs : JobSet) (number : ℕ) (unit_work : Work) (past : Transcript) (path : List ℕ) (names : List (List ℕ)) → Permits jobs number unit_work past (cmd.DestroySnaps path names) → All (WasListed (name_of (job_at jobs number)) (rules_by (job_at jobs number) unit_work) past path) names
+permits-listed : (jobs : Jobs) (number : ℕ) (unit_work : Work) (past : Transcript) (path : List ℕ) (names : List (List ℕ)) → Permits jobs number unit_work past (cmd.DestroySnaps path names) → All (WasListed (name_of jobs number) (rules_by jobs number unit_work) past path) names
 permits-listed jobs number (work.PruneSource own) past path names permits = λ k d inside. choose (listed own past) refl (get_or names k d) (permits.1 k d inside) where
-  choose : (told : Option (List VersionRow)) → listed own past ≡ told → (name : List ℕ) → Contains (doomed_in jobs number told) name → WasListed (name_of (job_at jobs number)) (rules_of (job_at jobs number)) past path name
+  choose : (told : Option (List VersionRow)) → listed own past ≡ told → (name : List ℕ) → Contains (doomed_in jobs number told) name → WasListed (name_of jobs number) (rules_of jobs number) past path name
   choose None none name within = absurd (no-element name within)
   choose (Some rows) told name within =
       let on : List ℕ → Type 0 = λ p. Contains past (cmd.Versions p, answer.Done (reply.Versions rows)) in
       record {
         rows = rows;
         told = subst on (sym permits.0) (listed-turn own past rows told);
-        may_go = doomed-may (name_of (job_at jobs number)) (rules_of (job_at jobs number)) rows name within;
+        may_go = doomed-may (name_of jobs number) (rules_of jobs number) rows name within;
       }
 permits-listed jobs number (work.Replicate source) past path names permits =
-    absurd (no-destroy (pair_of (job_at jobs number) source) past path names permits)
+    absurd (no-destroy (pair_of jobs number source) past path names permits)
 permits-listed jobs number other past path names permits = absurd permits
 
 -- a legal transcript destroys honestly
-pub legal-honest : (jobs : JobSet) (unit : Unit) (turns : Transcript) → Legal jobs unit turns → IsHonest jobs unit turns
+pub legal-honest : (jobs : Jobs) (unit : Unit) (turns : Transcript) → Legal jobs unit turns → IsHonest jobs unit turns
 legal-honest jobs unit turns legal = λ past later path names given is.
     let after : Transcript → Type 0 = LegalAfter jobs unit [] in
     permits-listed jobs unit.job unit.work past path names (legal-at jobs unit [] past (cmd.DestroySnaps path names, given) later (subst after is legal)).permits

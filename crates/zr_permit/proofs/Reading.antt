@@ -9,8 +9,8 @@ use Rattle.zr_command.specs.declared.command.Entry.{Entry}
 use Rattle.zr_command.specs.declared.command.Entry.TheVariants.{Call}
 use Rattle.zr_command.specs.declared.command.Transfer.{Transfer}
 use Rattle.zr_command.specs.Plain.{plain}
-use Rattle.zr_jobs.specs.declared.job.JobSet.{JobSet}
-use Rattle.zr_jobs.specs.Jobs.{job_at, pair_of}
+use Rattle.zr_jobset.specs.Sets.{Jobs}
+use Rattle.zr_jobset.specs.Units.{pair_of}
 use Rattle.zr_jobs.specs.declared.pair.Pair.{Pair}
 use Rattle.zr_known.specs.Known.{known_of}
 use Rattle.zr_permit.specs.Transcript.{LegalAfter, Permits, Replicates, Transcript, Turn}
@@ -68,19 +68,19 @@ transfer-is (cmd.Abort path) e = cc
 transfer-is (cmd.Transfer transfer) e = (transfer, refl)
 
 -- one transfer at most is permitted to a unit after its turns
-permits-one : (jobs : JobSet) (number : ℕ) (unit_work : Work) (past : Transcript) (one other : Transfer) → Permits jobs number unit_work past (cmd.Transfer one) → Permits jobs number unit_work past (cmd.Transfer other) → one ≡ other
+permits-one : (jobs : Jobs) (number : ℕ) (unit_work : Work) (past : Transcript) (one other : Transfer) → Permits jobs number unit_work past (cmd.Transfer one) → Permits jobs number unit_work past (cmd.Transfer other) → one ≡ other
 permits-one jobs number work.Scan past one other a b = absurd a
 permits-one jobs number work.Parents past one other a b = absurd a
 permits-one jobs number (work.Snap path prefix) past one other a b = absurd a
 permits-one jobs number (work.PruneSource path) past one other a b = absurd a
 permits-one jobs number (work.PruneTarget path) past one other a b = absurd a
-permits-one jobs number (work.Replicate source) past one other a b = of-pair (pair_of (job_at jobs number) source) a b where
+permits-one jobs number (work.Replicate source) past one other a b = of-pair (pair_of jobs number source) a b where
   of-pair : (pair : Option Pair) → Replicates pair past (cmd.Transfer one) → Replicates pair past (cmd.Transfer other) → one ≡ other
   of-pair None a b = absurd a
   of-pair (Some pair) a b = one-transfer pair (known_of pair past) one other a b
 
 -- two commands that are permitted and have the same words are one
-permits-plain : (jobs : JobSet) (number : ℕ) (unit_work : Work) (past : Transcript) (one other : Cmd) → Permits jobs number unit_work past one → Permits jobs number unit_work past other → plain one ≡ plain other → one ≡ other
+permits-plain : (jobs : Jobs) (number : ℕ) (unit_work : Work) (past : Transcript) (one other : Cmd) → Permits jobs number unit_work past one → Permits jobs number unit_work past other → plain one ≡ plain other → one ≡ other
 permits-plain jobs number unit_work past one other a b same = choose (is_transfer one) refl where
   kinds : is_transfer one ≡ is_transfer other
   kinds = sym (plain-kind one) ∙ ap is_transfer same ∙ plain-kind other
@@ -101,7 +101,7 @@ call-same : (a b : Cmd) (x y : Answer) → Call a x ≡ Call b y → (a ≡ b) �
 call-same a b x y e = (cc, cc)
 
 -- a record is read as one legal transcript at most
-pub one-reading : (jobs : JobSet) (unit : Unit) (past one other : Transcript) → LegalAfter jobs unit past one → LegalAfter jobs unit past other → calls one ≡ calls other → one ≡ other
+pub one-reading : (jobs : Jobs) (unit : Unit) (past one other : Transcript) → LegalAfter jobs unit past one → LegalAfter jobs unit past other → calls one ≡ calls other → one ≡ other
 one-reading jobs unit past [] [] a b same = refl
 one-reading jobs unit past [] (turn ∷ turns) a b same = cc
 one-reading jobs unit past (turn ∷ turns) [] a b same = cc

@@ -9,7 +9,7 @@ use Rattle.zr_command.specs.declared.command.Answer.TheVariants as answer
 use Rattle.zr_command.specs.declared.command.Entry.{Entry}
 use Rattle.zr_command.specs.declared.command.Entry.TheVariants.{Begin}
 use Rattle.zr_world.specs.Answering.{appended}
-use Rattle.zr_jobs.specs.declared.job.JobSet.{JobSet}
+use Rattle.zr_jobset.specs.Sets.{Jobs}
 use Rattle.zr_permit.specs.Result.{is_out_of_memory, ResultOf, WantsMemory}
 use Rattle.zr_permit.specs.Runs.{GoesOnToTheLast, HasRun, Ran}
 use Rattle.zr_permit.specs.Sight.{HasEnded, HasJustBegun, Sight}
@@ -35,7 +35,7 @@ abbrev Goes : Work → Turn → Type 0
 Goes unit_work turn = GoesOn unit_work turn.0 turn.1
 
 -- nothing is allowed after a turn that does not let the unit go on, so it is the last
-to-the-last : (jobs : JobSet) (unit : Unit) (past turns : Transcript) → LegalAfter jobs unit past turns → All (Goes unit.work) past → WantsMemory unit.work turns → GoesOnToTheLast unit.work turns
+to-the-last : (jobs : Jobs) (unit : Unit) (past turns : Transcript) → LegalAfter jobs unit past turns → All (Goes unit.work) past → WantsMemory unit.work turns → GoesOnToTheLast unit.work turns
 to-the-last jobs unit past [] legal went wants = record { front = []; goes_on = All-nil (Goes unit.work); parts = inl refl }
 to-the-last jobs unit past (turn ∷ []) legal went wants =
     record { front = []; goes_on = All-nil (Goes unit.work); parts = inr (turn, refl) }
@@ -56,12 +56,12 @@ to-the-last jobs unit past (turn ∷ (next ∷ turns)) legal went wants =
     All-last (first ∷ past) turn each = All-last past turn (All-tail (Goes unit.work) first (past ++ turn ∷ []) each)
 
 -- a run, and what else is known of its transcript unless memory was refused
-abbrev pub RunWith : JobSet → Unit → ℕ → Option (List Entry) → Option (List Entry) → Outcome → (Transcript → Type 0) → Type 0
+abbrev pub RunWith : Jobs → Unit → ℕ → Option (List Entry) → Option (List Entry) → Outcome → (Transcript → Type 0) → Type 0
 RunWith jobs unit run before now ended Known =
     (ran : HasRun jobs unit run before now ended) × (is_out_of_memory ended ≡ false → Known ran.turns)
 
 -- where memory was refused, the record may have the last call with another answer, or lack it
-short-run : (jobs : JobSet) (unit : Unit) (run : ℕ) (before now : Option (List Entry)) (turns : Transcript) → Legal jobs unit turns → WantsMemory unit.work turns → IsRecordOfUnit (appended before (Begin unit run ∷ [])) now turns outcome.NoMemory → HasRun jobs unit run before now outcome.NoMemory
+short-run : (jobs : Jobs) (unit : Unit) (run : ℕ) (before now : Option (List Entry)) (turns : Transcript) → Legal jobs unit turns → WantsMemory unit.work turns → IsRecordOfUnit (appended before (Begin unit run ∷ [])) now turns outcome.NoMemory → HasRun jobs unit run before now outcome.NoMemory
 short-run jobs unit run before now turns legal wants (inl records) = record {
   turns = turns;
   legal = legal;
@@ -91,7 +91,7 @@ short-run jobs unit run before now turns legal wants (inr short) =
 not-short : true ≡ false → ⊥
 not-short e = cc
 
-has-run : (jobs : JobSet) (unit : Unit) (run : ℕ) (before now : Option (List Entry)) (turns : Transcript) (ended : Outcome) (Known : Transcript → Type 0) → Legal jobs unit turns → ResultOf jobs unit turns ended → IsRecordOfUnit (appended before (Begin unit run ∷ [])) now turns ended → Known turns → RunWith jobs unit run before now ended Known
+has-run : (jobs : Jobs) (unit : Unit) (run : ℕ) (before now : Option (List Entry)) (turns : Transcript) (ended : Outcome) (Known : Transcript → Type 0) → Legal jobs unit turns → ResultOf jobs unit turns ended → IsRecordOfUnit (appended before (Begin unit run ∷ [])) now turns ended → Known turns → RunWith jobs unit run before now ended Known
 has-run jobs unit run before now turns outcome.NoMemory Known legal result records known =
     (short-run jobs unit run before now turns legal result records, λ ample. absurd (not-short ample))
 has-run jobs unit run before now turns other Known legal result records known = (
@@ -105,11 +105,11 @@ has-run jobs unit run before now turns other Known legal result records known = 
 )
 
 -- a unit that began and ended has run, and what is known of its transcript
-pub ran-with : (jobs : JobSet) (unit : Unit) (run : ℕ) (before : Option (List Entry)) (begun now : Sight) (ended : Outcome) (Known : Transcript → Type 0) → begun.jobs ≡ jobs → begun.unit ≡ unit → begun.history ≡ appended before (Begin unit run ∷ []) → HasJustBegun begun → Legal now.jobs now.unit now.turns → HasEnded begun now ended → Known now.turns → RunWith jobs unit run before now.history ended Known
+pub ran-with : (jobs : Jobs) (unit : Unit) (run : ℕ) (before : Option (List Entry)) (begun now : Sight) (ended : Outcome) (Known : Transcript → Type 0) → begun.jobs ≡ jobs → begun.unit ≡ unit → begun.history ≡ appended before (Begin unit run ∷ []) → HasJustBegun begun → Legal now.jobs now.unit now.turns → HasEnded begun now ended → Known now.turns → RunWith jobs unit run before now.history ended Known
 ran-with jobs unit run before begun now ended Known same_jobs same_unit begins fresh legal has known =
-    let legal_jobs : JobSet → Type 0 = λ j. Legal j now.unit now.turns in
+    let legal_jobs : Jobs → Type 0 = λ j. Legal j now.unit now.turns in
     let legal_unit : Unit → Type 0 = λ u. Legal jobs u now.turns in
-    let result_jobs : JobSet → Type 0 = λ j. ResultOf j begun.unit now.turns ended in
+    let result_jobs : Jobs → Type 0 = λ j. ResultOf j begun.unit now.turns ended in
     let result_unit : Unit → Type 0 = λ u. ResultOf jobs u now.turns ended in
     let from : Option (List Entry) → Type 0 = λ base. IsRecordOfUnit base now.history now.turns ended in
     let empty : Transcript → Type 0 = λ ts. IsRecordOf begun.history begun.history ts in
@@ -120,6 +120,6 @@ ran-with jobs unit run before begun now ended Known same_jobs same_unit begins f
     known
 
 -- a unit that began and ended has run
-pub ran-begun : (jobs : JobSet) (unit : Unit) (run : ℕ) (before : Option (List Entry)) (begun now : Sight) (ended : Outcome) → begun.jobs ≡ jobs → begun.unit ≡ unit → begun.history ≡ appended before (Begin unit run ∷ []) → HasJustBegun begun → Legal now.jobs now.unit now.turns → HasEnded begun now ended → Ran jobs unit run before now.history ended
+pub ran-begun : (jobs : Jobs) (unit : Unit) (run : ℕ) (before : Option (List Entry)) (begun now : Sight) (ended : Outcome) → begun.jobs ≡ jobs → begun.unit ≡ unit → begun.history ≡ appended before (Begin unit run ∷ []) → HasJustBegun begun → Legal now.jobs now.unit now.turns → HasEnded begun now ended → Ran jobs unit run before now.history ended
 ran-begun jobs unit run before begun now ended same_jobs same_unit begins fresh legal has =
     inl (ran-with jobs unit run before begun now ended (λ ts. Legal now.jobs now.unit now.turns) same_jobs same_unit begins fresh legal has legal).0

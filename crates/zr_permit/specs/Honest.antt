@@ -1,4 +1,4 @@
-use Rattle.std.specs.Prelude.{◌≡◌, ◌<◌, ℕ, false, List, [], ◌∷◌, ◌++◌, All, Contains, Option, length}
+use Rattle.std.specs.Prelude.{◌≡◌, ◌<◌, ℕ, false, List, [], ◌∷◌, ◌++◌, All, Contains, length}
 use Rattle.zr_names.specs.declared.unit.Unit.{Unit}
 use Rattle.zr_names.specs.declared.unit.Work.{Work}
 use Rattle.zr_names.specs.declared.unit.Work.TheVariants as work
@@ -8,11 +8,10 @@ use Rattle.zr_command.specs.declared.command.Cmd.TheVariants as cmd
 use Rattle.zr_command.specs.declared.command.Reply.TheVariants as reply
 use Rattle.zr_command.specs.declared.version.VersionName.TheVariants.{Snap}
 use Rattle.zr_command.specs.declared.version.VersionRow.{VersionRow}
-use Rattle.zr_jobs.specs.declared.job.Job.{Job}
-use Rattle.zr_jobs.specs.declared.job.JobSet.{JobSet}
+use Rattle.zr_jobset.specs.Sets.{Jobs}
 use Rattle.zr_rules.specs.declared.rule.RuleSpec.{RuleSpec}
 use Rattle.zr_rules.specs.Keeps.{retained}
-use Rattle.zr_jobs.specs.Jobs.{job_at, name_of, rules_of}
+use Rattle.zr_jobset.specs.Units.{name_of, rules_of}
 use Rattle.zr_permit.specs.Keep.{cursor_txg, rule_row, snaps_of}
 use Rattle.zr_permit.specs.Transcript.{Transcript}
 
@@ -37,14 +36,14 @@ pub record WasListed (job : List ℕ) (rules : List RuleSpec) (past : Transcript
 
 -- the rules by which a unit may destroy snapshots, those of its side: a job has rules for its source, and a unit that prunes
 -- something else, or nothing, has none
-abbrev pub rules_by : Option Job → Work → List RuleSpec
-rules_by job (work.PruneSource path) = rules_of job
-rules_by job other = []
+abbrev pub rules_by : Jobs → ℕ → Work → List RuleSpec
+rules_by jobs number (work.PruneSource path) = rules_of jobs number
+rules_by jobs number other = []
 
 -- honest destruction: each snapshot that a unit gave for destruction stood in a listing of its dataset that
 -- the unit had taken before, with no holds and kept by no rule of the unit's side
-abbrev pub IsHonest : JobSet → Unit → Transcript → Type 0
+abbrev pub IsHonest : Jobs → Unit → Transcript → Type 0
 IsHonest jobs unit turns =
     (past later : Transcript) (path : List ℕ) (names : List (List ℕ)) (given : Answer) →
     turns ≡ past ++ (cmd.DestroySnaps path names, given) ∷ later →
-    All (WasListed (name_of (job_at jobs unit.job)) (rules_by (job_at jobs unit.job) unit.work) past path) names
+    All (WasListed (name_of jobs unit.job) (rules_by jobs unit.job unit.work) past path) names

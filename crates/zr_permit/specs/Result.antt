@@ -1,4 +1,4 @@
-use Rattle.std.specs.Prelude.{◌≡◌, ◌⊎◌, ℕ, ◌+◌, ◌-◌, ◌^◌, ◌<◌, List, [], ◌∷◌, Some, All, Any, Bool, true, false, count_by, filter, length, min, sum_by, not, slice_get}
+use Rattle.std.specs.Prelude.{◌≡◌, ◌⊎◌, ◌&&◌, ℕ, ◌+◌, ◌-◌, ◌^◌, ◌<◌, List, [], ◌∷◌, Some, All, Any, Bool, true, false, count_by, filter, length, min, sum_by, not, slice_get}
 use Rattle.zr_names.specs.declared.outcome.Outcome.{Outcome}
 use Rattle.zr_names.specs.declared.outcome.Outcome.TheVariants as outcome
 use Rattle.zr_names.specs.declared.unit.Unit.{Unit}
@@ -11,12 +11,12 @@ use Rattle.zr_command.specs.declared.command.Cmd.TheVariants as cmd
 use Rattle.zr_command.specs.declared.command.Reply.TheVariants as reply
 use Rattle.zr_command.specs.declared.version.SetRow.{SetRow}
 use Rattle.zr_command.specs.declared.version.VersionRow.{VersionRow}
-use Rattle.zr_jobs.specs.declared.job.JobSet.{JobSet}
+use Rattle.zr_jobset.specs.Sets.{Jobs}
 use Rattle.zr_jobs.specs.declared.pair.Pair.{Pair}
 use Rattle.zr_known.specs.declared.straight.TheConstants.{NOT_STRAIGHT}
 use Rattle.zr_permit.specs.declared.told.Told.{Told}
 use Rattle.zr_permit.specs.declared.told.Told.TheVariants as told
-use Rattle.zr_jobs.specs.Jobs.{fits_in, job_at, matched, name_of, pair_of, rules_of}
+use Rattle.zr_jobset.specs.Units.{fits_in, has_default_policy, matched, name_of, pair_of, rules_of}
 use Rattle.zr_permit.specs.Keep.{doomed}
 use Rattle.zr_known.specs.Known.{known_of}
 use Rattle.zr_known.specs.Straight.{has_listed, is_listing, is_straight, IsFinished}
@@ -42,19 +42,19 @@ is_done_transfer command given = false
 
 -- a scan has finished: the datasets were listed, and these are the numbers of matched paths on which a
 -- unit can work, and of those that are too long or have a target that is
-pub record HasScanned (jobs : JobSet) (unit : Unit) (turns : Transcript) (found too_long : ℕ) : Type 0 where
+pub record HasScanned (jobs : Jobs) (unit : Unit) (turns : Transcript) (found too_long : ℕ) : Type 0 where
   pub work_is : unit.work ≡ work.Scan
   pub rows : List SetRow
   pub told : turns ≡ (cmd.Sets, answer.Done (reply.Sets rows)) ∷ []
   pub found_are :
-      found ≡ capped (length (filter (fits_in (job_at jobs unit.job)) (matched (job_at jobs unit.job) rows)))
+      found ≡ capped (length (filter (fits_in jobs unit.job) (matched jobs unit.job rows)))
   pub too_long_are :
       too_long
       ≡ capped (length
-      (filter (λ path. not (fits_in (job_at jobs unit.job) path)) (matched (job_at jobs unit.job) rows)))
+      (filter (λ path. not (fits_in jobs unit.job path)) (matched jobs unit.job rows)))
 
 -- a prune unit has finished: its dataset was listed, and a destroy of each doomed snapshot was given
-pub record HasPruned (jobs : JobSet) (unit : Unit) (turns : Transcript) (destroyed busy : ℕ) : Type 0 where
+pub record HasPruned (jobs : Jobs) (unit : Unit) (turns : Transcript) (destroyed busy : ℕ) : Type 0 where
   pub path : List ℕ
   pub work_is : unit.work ≡ work.PruneSource path
   pub goes_on : All (λ turn. GoesOn unit.work turn.0 turn.1) turns
@@ -62,31 +62,33 @@ pub record HasPruned (jobs : JobSet) (unit : Unit) (turns : Transcript) (destroy
   pub told : listed path turns ≡ Some rows
   pub issued :
       All (λ name. Any (λ (turn : Turn). Destroys path name turn.0) turns)
-      (doomed (name_of (job_at jobs unit.job)) (rules_of (job_at jobs unit.job)) rows)
+      (doomed (name_of jobs unit.job) (rules_of jobs unit.job) rows)
   pub destroyed_are : destroyed ≡ capped (sum_by (λ (turn : Turn). done_names turn.0 turn.1) turns)
   pub busy_are : busy ≡ capped (sum_by (λ (turn : Turn). failed_names turn.0 turn.1) turns)
 
 -- a replication unit of a pair has done what it gave
-pub record IsReplicating (jobs : JobSet) (unit : Unit) (turns : Transcript) (pair : Pair) : Type 0 where
+pub record IsReplicating (jobs : Jobs) (unit : Unit) (turns : Transcript) (pair : Pair) : Type 0 where
   pub path : List ℕ
   pub work_is : unit.work ≡ work.Replicate path
-  pub pair_is : pair_of (job_at jobs unit.job) path ≡ Some pair
+  pub pair_is : pair_of jobs unit.job path ≡ Some pair
   pub goes_on : All (λ turn. GoesOn unit.work turn.0 turn.1) turns
 
 -- a replication unit has finished, with this number of transfers
-pub record HasReplicated (jobs : JobSet) (unit : Unit) (turns : Transcript) (steps : ℕ) : Type 0 where
+pub record HasReplicated (jobs : Jobs) (unit : Unit) (turns : Transcript) (steps : ℕ) : Type 0 where
   pub pair : Pair
   pub replicating : IsReplicating jobs unit turns pair
+  pub by_default : has_default_policy jobs unit.job ≡ true
   pub finished : IsFinished pair (known_of pair turns)
   pub steps_are : steps ≡ capped (count_by (λ (turn : Turn). is_done_transfer turn.0 turn.1) turns)
 
--- a replication unit has listed all, and done nothing else, since what is there is not straight
-pub record HasConflict (jobs : JobSet) (unit : Unit) (turns : Transcript) (number : ℕ) : Type 0 where
+-- a replication unit has listed all, and done nothing else, since its job does not replicate as by default, or what is there
+-- is not straight
+pub record HasConflict (jobs : Jobs) (unit : Unit) (turns : Transcript) (number : ℕ) : Type 0 where
   pub pair : Pair
   pub replicating : IsReplicating jobs unit turns pair
   pub lists_alone : All (λ turn. is_listing turn.0 ≡ true) turns
   pub listed : has_listed pair (known_of pair turns) ≡ true
-  pub not_straight : is_straight pair (known_of pair turns) ≡ false
+  pub not_ready : (has_default_policy jobs unit.job && is_straight pair (known_of pair turns)) ≡ false
   pub number_is : number ≡ NOT_STRAIGHT
 
 -- the command of this number, counted from 1, failed, and it is none after which the unit goes on
@@ -110,7 +112,7 @@ abbrev pub WantsMemory : Work → Transcript → Type 0
 WantsMemory unit_work turns = All (λ turn. GoesOn unit_work turn.0 turn.1 ⊎ (turn.1 ≡ answer.NoMemory)) turns
 
 -- the result of a transcript
-abbrev pub ResultOf : JobSet → Unit → Transcript → Outcome → Type 0
+abbrev pub ResultOf : Jobs → Unit → Transcript → Outcome → Type 0
 ResultOf jobs unit turns (outcome.Scanned found too_long) = HasScanned jobs unit turns found too_long
 ResultOf jobs unit turns (outcome.Pruned destroyed busy) = HasPruned jobs unit turns destroyed busy
 ResultOf jobs unit turns outcome.UpToDate = HasReplicated jobs unit turns 0

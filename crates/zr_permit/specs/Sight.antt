@@ -6,7 +6,7 @@ use Rattle.zr_command.specs.declared.command.Entry.{Entry}
 use Rattle.zr_world.specs.Answering.{Acts}
 use Rattle.zr_world.specs.declared.pools.Pools.{Pools}
 use Rattle.zr_world.specs.declared.zfs.Zfs.{Ghosts}
-use Rattle.zr_jobs.specs.declared.job.JobSet.{JobSet}
+use Rattle.zr_jobset.specs.Sets.{Jobs}
 use Rattle.zr_permit.specs.declared.guarded.Guarded.{Guarded}
 use Rattle.zr_permit.specs.Result.{is_child_fault, ResultOf}
 use Rattle.zr_permit.specs.Transcript.{GoesOn, Transcript}
@@ -15,7 +15,7 @@ use Rattle.zr_permit.specs.Turned.{IsRecordOf, IsRecordOfUnit}
 -- what a contract sees of a unit at work: its jobs, the unit, its turns, whether memory was refused to it, and what its
 -- runner shows: the record, the pools and the count of faults
 pub record Sight : Type 0 where
-  pub jobs : JobSet
+  pub jobs : Jobs
   pub unit : Unit
   pub turns : Transcript
   pub out_of_memory : Bool

@@ -9,8 +9,8 @@ use Rattle.zr_command.specs.declared.command.Cmd.{Cmd}
 use Rattle.zr_command.specs.declared.command.Cmd.TheVariants as cmd
 use Rattle.zr_command.specs.declared.command.Reply.TheVariants as reply
 use Rattle.zr_command.specs.declared.version.VersionRow.{VersionRow}
-use Rattle.zr_jobs.specs.declared.job.JobSet.{JobSet}
-use Rattle.zr_jobs.specs.Jobs.{job_at, name_of, pair_of, rules_of}
+use Rattle.zr_jobset.specs.Sets.{Jobs}
+use Rattle.zr_jobset.specs.Units.{name_of, pair_of, rules_of}
 use Rattle.zr_permit.specs.Keep.{doomed}
 use Rattle.zr_jobs.specs.declared.pair.Pair.{Pair}
 use Rattle.zr_known.specs.Known.{known_of}
@@ -67,9 +67,9 @@ IsNew past (cmd.DestroySnaps path names) = All (λ name. All (λ turn. Destroys 
 IsNew past command = ⊤
 
 -- the snapshots that a unit's own listing dooms
-abbrev pub doomed_in : JobSet → ℕ → Option (List VersionRow) → List (List ℕ)
+abbrev pub doomed_in : Jobs → ℕ → Option (List VersionRow) → List (List ℕ)
 doomed_in jobs number None = []
-doomed_in jobs number (Some rows) = doomed (name_of (job_at jobs number)) (rules_of (job_at jobs number)) rows
+doomed_in jobs number (Some rows) = doomed (name_of jobs number) (rules_of jobs number) rows
 
 -- what a replication unit may give after its turns: a line a command, by what they told it
 abbrev pub Replicates : Option Pair → Transcript → Cmd → Type 0
@@ -80,9 +80,9 @@ Replicates (Some pair) past command = MayGive pair (known_of pair past) command
 -- the versions of the unit's own dataset by that unit, and snapshots are destroyed by a prune unit of their
 -- dataset alone, where the unit's own listing shows each with no holds and no rule keeps it; a replication unit
 -- may give what `Replicates` says, and nothing else is given
-abbrev pub Permits : JobSet → ℕ → Work → Transcript → Cmd → Type 0
+abbrev pub Permits : Jobs → ℕ → Work → Transcript → Cmd → Type 0
 Permits jobs number (work.Replicate source) past command =
-    Replicates (pair_of (job_at jobs number) source) past command
+    Replicates (pair_of jobs number source) past command
 Permits jobs number unit_work past cmd.Sets = ⊤
 Permits jobs number unit_work past (cmd.Versions path) = own_path unit_work ≡ Some path
 Permits jobs number (work.PruneSource own) past (cmd.DestroySnaps path names) =
@@ -90,17 +90,17 @@ Permits jobs number (work.PruneSource own) past (cmd.DestroySnaps path names) =
 Permits jobs number unit_work past command = ⊥
 
 -- the permission rule: a unit may give a command after a transcript
-pub record Allowed (jobs : JobSet) (unit : Unit) (past : Transcript) (command : Cmd) : Type 0 where
+pub record Allowed (jobs : Jobs) (unit : Unit) (past : Transcript) (command : Cmd) : Type 0 where
   pub goes_on : All (λ turn. GoesOn unit.work turn.0 turn.1) past
   pub is_new : IsNew past command
   pub permits : Permits jobs unit.job unit.work past command
 
 -- each of some turns was allowed after those before it
-abbrev pub LegalAfter : JobSet → Unit → Transcript → Transcript → Type 0
+abbrev pub LegalAfter : Jobs → Unit → Transcript → Transcript → Type 0
 LegalAfter jobs unit past [] = ⊤
 LegalAfter jobs unit past (turn ∷ turns) =
     Allowed jobs unit past turn.0 × LegalAfter jobs unit (past ++ turn ∷ []) turns
 
 -- a legal transcript
-abbrev pub Legal : JobSet → Unit → Transcript → Type 0
+abbrev pub Legal : Jobs → Unit → Transcript → Type 0
 Legal jobs unit turns = LegalAfter jobs unit [] turns

@@ -4,7 +4,7 @@ use crate::log::Log;
 use crate::told::Told;
 use std::alloc::Global;
 use zr_command::{Answer, Cmd};
-use zr_jobs::JobSet;
+use zr_jobset::JobSet;
 use zr_names::{Outcome, Unit};
 use zr_world::Zfs;
 
@@ -26,7 +26,7 @@ pub struct Unbegun<'a, Z> {
 
 impl<'a, Z: Zfs> Guarded<'a, Z> {
     ghost use Rattle.std.specs.Prelude.{◌≡◌, ◌≢◌, ◌∷◌, [], IfOk, IfErr, List, Option, false, length};
-    ghost use Rattle.zr_jobs.specs.Jobs.{IsOfFile};
+    ghost use Rattle.zr_jobset.specs.Units.{IsOfFile};
     ghost use Rattle.zr_permit.specs.Result.{ended_as};
     ghost use Rattle.zr_permit.specs.Sight.{HasEnded, HasJustBegun, IsAtWork, sight, Went};
     ghost use Rattle.zr_permit.specs.Transcript.{Allowed, Legal};

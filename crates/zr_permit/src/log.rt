@@ -3,7 +3,7 @@
 use std::alloc::{AllocError, Global};
 use std::marker::Model;
 use zr_command::{Answer, Cmd};
-use zr_jobs::JobSet;
+use zr_jobset::JobSet;
 use zr_names::Unit;
 
 /// What a unit asked and was told so far. Each command was allowed when it was given.

@@ -1,21 +1,24 @@
 //! The unit of work that destroys the snapshots of a dataset that no rule keeps.
 #![tactic(auto)]
 
-ghost use Rattle.std.specs.Prelude.{◌≡◌, ◌<◌, [], IfOk, List, Option, false, length, slice_index_or, take};
+ghost use Rattle.std.specs.Prelude.{◌≡◌, ◌≤◌, [], IfOk, List, Option, false, length};
 ghost use Rattle.zr_base.specs.Count.{Rose};
 ghost use Rattle.zr_names.specs.declared.unit.Work.TheVariants as work;
-ghost use Rattle.zr_jobs.specs.Jobs.{job_at, rules_of};
+ghost use Rattle.zr_jobset.specs.Units.{rules_of};
 ghost use Rattle.zr_permit.specs.Sight.{HasEnded, HasJustBegun, IsAtWork, sight, Went};
-ghost use Rattle.zr_permit.specs.Transcript.{doomed_in, listed};
+ghost use Rattle.zr_permit.specs.Transcript.{Allowed, doomed_in, listed};
 ghost use Rattle.zr_permit.specs.Turned.{HasTurned, is_no_memory, IsRecordOf, IsRecordAfter, Turns};
-ghost use Rattle.zr_prune.specs.Pruning.{destroy_one, IsListed, IsPruned, IsPruneSource, IsPruning};
+ghost use Rattle.zr_prune.specs.Groups.{destroy_of};
+ghost use Rattle.zr_prune.specs.Pruning.{DestroysInGroups, IsListed, IsPruned, IsPruneSource, IsPruning};
 ghost use Rattle.zr_prune.specs.Alone.{PrunesAlone};
 ghost use Rattle.zr_command.specs.declared.command.Cmd.TheVariants as cmd;
 ghost use Rattle.zr_command.specs.declared.command.Entry.{Entry};
+ghost use Rattle.zr_command.specs.Group.{AreNames};
+ghost use Rattle.zr_command.specs.declared.names.TheConstants.{NAMES_LIMIT};
 
 use std::alloc::{AllocError, Global};
-use zr_command::{Answer, Cmd, Names, Reply};
-use zr_names::{NoMemory, Outcome, Path, Same, SnapName, Work};
+use zr_command::{Answer, Cmd, NAMES_LIMIT, Names, Reply, read_names};
+use zr_names::{NoMemory, Outcome, Path, Same, SnapName, Work, same_items};
 use zr_permit::{Guarded, Told, doomed};
 use zr_rules::Rules;
 use zr_world::Zfs;
@@ -37,11 +40,33 @@ fn versions(path: &Path) -> Result<Cmd, AllocError>
     Ok(Cmd::Versions(path.same()?))
 }
 
-fn destruction(alloc: Global, path: &Path, name: &SnapName) -> Result<Cmd, AllocError>
-    ensures { IfOk result (λ command. command ≡ destroy_one path.now name.now) }
+/// These names, as one command names them together.
+fn group_of(alloc: Global, group: &[SnapName]) -> Result<Names, AllocError>
+    requires names { AreNames group.now }
+    ensures { IfOk result (λ names. names ≡ group.now) }
 {
-    let names = Names::one(alloc, name.same()?)?;
+    let list = same_items(alloc, group)?.into_vec();
+    match read_names(list) {
+        Ok(names) => Ok(names),
+        Err(_) => unreachable!(),
+    }
+}
+
+/// The destroy of this group.
+fn destruction(alloc: Global, path: &Path, group: &[SnapName]) -> Result<Cmd, AllocError>
+    requires names { AreNames group.now }
+    ensures { IfOk result (λ command. command ≡ destroy_of path.now group.now) }
+{
+    let names = group_of(alloc, group)?;
     Ok(Cmd::DestroySnaps(path.same()?, names))
+}
+
+/// How many these are.
+fn count(group: &[SnapName]) -> u32
+    requires few { length group.now ≤ NAMES_LIMIT }
+    ensures { result ≡ length group.now }
+{
+    group.len() as u32
 }
 
 /// Lists the dataset's versions.
@@ -75,52 +100,49 @@ fn doomed_names<Z: Zfs>(
 ) -> Result<Vec<SnapName>, NoMemory>
     requires listed { IsListed (sight Z.Zfs unit.now).turns path.now }
     requires rules { rules.old
-        ≡ rules_of (job_at (sight Z.Zfs unit.now).jobs (sight Z.Zfs unit.now).unit.job) }
+        ≡ rules_of (sight Z.Zfs unit.now).jobs (sight Z.Zfs unit.now).unit.job }
     ensures doomed { IfOk result (λ names. names.items
         ≡ doomed_in (sight Z.Zfs unit.now).jobs (sight Z.Zfs unit.now).unit.job
         (listed path.now (sight Z.Zfs unit.now).turns)) }
     ensures rules { rules.new ≡ rules.old }
 {
-    let Some(job) = unit.jobs().job(unit.unit().job) else {
+    let Some(job) = unit.jobs().name(unit.unit().job) else {
         return Ok(Vec::new(alloc));
     };
     match unit.last() {
-        Some(Answer::Done(Reply::Versions(rows))) => {
-            doomed(alloc, &job.name, rules, rows.as_slice())
-        }
+        Some(Answer::Done(Reply::Versions(rows))) => { doomed(alloc, job, rules, rows.as_slice()) }
         _ => unreachable!(),
     }
 }
 
-/// Gives one more snapshot for destruction.
+/// Gives one more group for destruction.
 fn destroy<Z: Zfs>(
     alloc: Global,
     unit: &mut Guarded<'_, Z>,
     path: &Path,
-    names: &[SnapName],
-    place: usize,
+    group: &[SnapName],
 ) -> Told
-    requires inside { place < length names.now }
+    requires names { AreNames group.now }
     requires memory { (sight Z.Zfs unit.old).out_of_memory ≡ false }
-    requires pruning { IsPruning (sight Z.Zfs unit.old) path.now names.now (take place names.now) }
+    requires allowed { Allowed (sight Z.Zfs unit.old).jobs (sight Z.Zfs unit.old).unit
+        (sight Z.Zfs unit.old).turns (destroy_of path.now group.now) }
     ensures went { Went (sight Z.Zfs unit.old) (sight Z.Zfs unit.new) }
     ensures turns { Turns (sight Z.Zfs unit.old).turns (sight Z.Zfs unit.new).turns
-        (destroy_one path.now (slice_index_or names.now place [])) result }
+        (destroy_of path.now group.now) result }
     ensures memory { is_no_memory result ≡ false → (sight Z.Zfs unit.new).out_of_memory ≡ false }
     ensures records { (base : Option (List Entry))
         → IsRecordOf base (sight Z.Zfs unit.old).history (sight Z.Zfs unit.old).turns →
         IsRecordAfter base (sight Z.Zfs unit.new).history (sight Z.Zfs unit.old).turns
-        (sight Z.Zfs unit.new).turns
-        (destroy_one path.now (slice_index_or names.now place [])) result }
+        (sight Z.Zfs unit.new).turns (destroy_of path.now group.now) result }
     ensures same_runner { unit.new.runner.ghost_name ≡ unit.old.runner.ghost_name }
 {
-    match destruction(alloc, path, &names[place]) {
+    match destruction(alloc, path, group) {
         Ok(command) => unit.run(command),
         Err(_) => Told::NoMemory,
     }
 }
 
-/// Gives each doomed snapshot for destruction. A destroy that fails counts as busy.
+/// Gives the doomed snapshots for destruction, a group at a time. Each name of a destroy that fails counts as busy.
 fn destroy_all<Z: Zfs>(
     alloc: Global,
     unit: &mut Guarded<'_, Z>,
@@ -136,10 +158,10 @@ fn destroy_all<Z: Zfs>(
 {
     let mut destroyed: u32 = 0;
     let mut busy: u32 = 0;
-    for place in 0..names.len() {
-        match destroy(alloc, unit, path, names, place) {
-            Told::Done => destroyed = destroyed.saturating_add(1),
-            Told::Failed => busy = busy.saturating_add(1),
+    for group in names.chunks(NAMES_LIMIT) {
+        match destroy(alloc, unit, path, group) {
+            Told::Done => destroyed = destroyed.saturating_add(count(group)),
+            Told::Failed => busy = busy.saturating_add(count(group)),
             Told::Garbled(_) => unreachable!(),
             Told::NoMemory => return Outcome::NoMemory,
         }
@@ -156,7 +178,7 @@ fn prune_listed<Z: Zfs>(
 ) -> Outcome
     requires at_work { IsAtWork (sight Z.Zfs unit.old) }
     requires rules { rules.old
-        ≡ rules_of (job_at (sight Z.Zfs unit.old).jobs (sight Z.Zfs unit.old).unit.job) }
+        ≡ rules_of (sight Z.Zfs unit.old).jobs (sight Z.Zfs unit.old).unit.job }
     requires own { (sight Z.Zfs unit.old).unit.work ≡ work.PruneSource path.now }
     requires listed { HasTurned [] (sight Z.Zfs unit.old).turns (cmd.Versions path.now) Told.Done }
     ensures ended { HasEnded (sight Z.Zfs unit.old) (sight Z.Zfs unit.new) result }
@@ -171,14 +193,16 @@ fn prune_listed<Z: Zfs>(
 }
 
 /// Lists the unit's dataset and destroys, in the order of the listing, each snapshot with no holds that
-/// no rule of the job keeps (zrepl's documentation, "Pruning Policies"). The rules are those that `compile`
-/// gives for the job. A destroy that fails counts as busy, and the unit goes on.
+/// no rule of the job keeps (zrepl's documentation, "Pruning Policies"), 64 by one destroy and the rest by the
+/// last. The rules are those that `compile` gives for the job. Each name of a destroy that fails counts as busy,
+/// and the unit goes on.
 pub fn prune<Z: Zfs>(alloc: Global, unit: &mut Guarded<'_, Z>, rules: &mut Rules) -> Outcome
     requires begun { HasJustBegun (sight Z.Zfs unit.old) }
     requires rules { rules.old
-        ≡ rules_of (job_at (sight Z.Zfs unit.old).jobs (sight Z.Zfs unit.old).unit.job) }
+        ≡ rules_of (sight Z.Zfs unit.old).jobs (sight Z.Zfs unit.old).unit.job }
     requires kind { IsPruneSource (sight Z.Zfs unit.old).unit.work }
     ensures ended { HasEnded (sight Z.Zfs unit.old) (sight Z.Zfs unit.new) result }
+    ensures groups { DestroysInGroups (sight Z.Zfs unit.new) result }
     ensures alone { PrunesAlone (sight Z.Zfs unit.old) (sight Z.Zfs unit.new) result }
     ensures rules { rules.new ≡ rules.old }
     ensures same_runner { unit.new.runner.ghost_name ≡ unit.old.runner.ghost_name }

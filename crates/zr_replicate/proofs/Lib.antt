@@ -6,5 +6,6 @@ pub mod Lists
 pub mod Marking
 pub mod Planning
 pub mod Sending
+pub mod Sent
 pub mod Straight
 pub mod Turning

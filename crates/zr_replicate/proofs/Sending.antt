@@ -27,10 +27,10 @@ use Rattle.zr_replicate.specs.Steps.{IsUntouched, RestsOn}
 use Rattle.zr_replicate.proofs.Lists.{found-in, in-filter, passes-of}
 use Rattle.zr_replicate.proofs.Planning.{cursor-found, plan-first, plan-onto, source-some}
 
-some-is : {X : Type 0} (x y : X) → Some x ≡ Some y → x ≡ y
+pub some-is : {X : Type 0} (x y : X) → Some x ≡ Some y → x ≡ y
 some-is x y e = cc
 
-unmapped : {X Y : Type 0} (f : X → Y) (o : Option X) (y : Y) → option_map f o ≡ Some y → (x : X) × (f x ≡ y)
+pub unmapped : {X Y : Type 0} (f : X → Y) (o : Option X) (y : Y) → option_map f o ≡ Some y → (x : X) × (f x ≡ y)
 unmapped f None y e = cc
 unmapped f (Some x) y e = (x, some-is (f x) y e)
 

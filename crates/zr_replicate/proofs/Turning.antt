@@ -1,7 +1,7 @@
 use Rattle.std.specs.Bool.{if◌then◌else◌}
 use Rattle.std.specs.List.{count_by}
 use Rattle.std.proofs.lemmas.Bool.Decides.{Decides-eqb}
-use Rattle.std.proofs.Common.{◌≡◌, ◌≢◌, ◌∙◌, ◌<◌, ◌==◌, arith, Bool, true, zero, suc, List, [], ◌∷◌, ◌++◌, ℕ, false, Option, Result, Ok, Err, ap, length, refl, sym, subst}
+use Rattle.std.proofs.Common.{◌&&◌, ◌≡◌, ◌≢◌, ◌∙◌, ◌<◌, ◌==◌, arith, Bool, true, zero, suc, List, [], ◌∷◌, ◌++◌, ℕ, false, Option, Result, Ok, Err, ap, length, refl, sym, subst}
 use Rattle.zr_base.specs.Count.{Rose}
 use Rattle.zr_names.specs.declared.outcome.Outcome.{Outcome}
 use Rattle.zr_names.specs.declared.unit.Unit.{Unit}
@@ -13,11 +13,11 @@ use Rattle.zr_command.specs.declared.command.Answer.TheVariants as answer
 use Rattle.zr_command.specs.declared.command.Cmd.{Cmd}
 use Rattle.zr_command.specs.declared.command.Reply.{Reply}
 use Rattle.zr_jobs.specs.declared.pair.Pair.{Pair}
-use Rattle.zr_jobs.specs.declared.job.JobSet.{JobSet}
+use Rattle.zr_jobset.specs.Sets.{Jobs}
 use Rattle.zr_command.specs.declared.command.Entry.{Entry}
 use Rattle.zr_permit.specs.declared.told.Told.{Told}
 use Rattle.zr_permit.specs.declared.told.Told.TheVariants as told
-use Rattle.zr_jobs.specs.Jobs.{job_at, pair_of}
+use Rattle.zr_jobset.specs.Units.{has_default_policy, pair_of}
 use Rattle.zr_known.specs.Known.{known_of, nothing_known, told_by}
 use Rattle.zr_names.specs.declared.outcome.Outcome.TheVariants as outcome
 use Rattle.zr_known.specs.declared.straight.TheConstants.{NOT_STRAIGHT}
@@ -30,7 +30,7 @@ use Rattle.zr_permit.proofs.Ending.{at-work-more, begun-at-work, ended-on, ended
 use Rattle.zr_known.proofs.Knowing.{known-more}
 use Rattle.zr_replicate.specs.Listing.{OnlyLists}
 use Rattle.zr_replicate.specs.Outcomes.{finished_with, IsPairOf}
-use Rattle.zr_replicate.specs.Progress.{AtWork, GoesOnWith, HasEndedAs, Learnt, Progress, Stage}
+use Rattle.zr_replicate.specs.Progress.{AtWork, by_default, GoesOnWith, HasEndedAs, is_ready, Learnt, Progress, Stage}
 
 done-is : (got : Answer) → told.Done ≡ told_of got → (given : Reply) × (got ≡ Done given)
 done-is (Done given) e = (given, refl)
@@ -46,7 +46,7 @@ knows-more pair before now command at went memory turned learnt =
     let turns : now.unit.turns ≡ before.unit.turns ++ (command, Done given) ∷ [] = turned.turns_are ∙ ap (λ (a : Answer). before.unit.turns ++ (command, a) ∷ []) done.1 in
     record {
       work_is = ap (λ (u : Unit). u.work) went.same_unit ∙ at.work_is;
-      pair_is = ap (λ (j : JobSet). pair_of (job_at j now.unit.unit.job) pair.source) went.same_jobs ∙ ap (λ (u : Unit). pair_of (job_at before.unit.jobs u.job) pair.source) went.same_unit ∙ at.pair_is;
+      pair_is = ap (λ (j : Jobs). pair_of j now.unit.unit.job pair.source) went.same_jobs ∙ ap (λ (u : Unit). pair_of before.unit.jobs u.job pair.source) went.same_unit ∙ at.pair_is;
       at_work = at-work-more before.unit now.unit command at.at_work went turned memory;
       known_is =
           learnt before.unit.turns command given turns
@@ -112,8 +112,8 @@ no-fault : false ≡ true → ⊥
 no-fault e = cc
 
 -- a unit that has finished has ended with the number of its transfers
-pub finished_ended : (pair : Pair) (now : Progress) (ended : Outcome) → AtWork pair now → IsFinished pair now.known → ended ≡ finished_with (capped (count_by (λ (turn : Turn). is_done_transfer turn.0 turn.1) now.unit.turns)) → HasEndedAs now now ended
-finished_ended pair now ended at finished is =
+pub finished_ended : (pair : Pair) (now : Progress) (ended : Outcome) → AtWork pair now → IsFinished pair now.known → by_default now ≡ true → ended ≡ finished_with (capped (count_by (λ (turn : Turn). is_done_transfer turn.0 turn.1) now.unit.turns)) → HasEndedAs now now ended
+finished_ended pair now ended at finished default is =
     record { ended = subst (λ (o : Outcome). HasEnded now.unit now.unit o) (sym is) (by (steps == 0) refl); same_lent = refl } where
       steps : ℕ
       steps = capped (count_by (λ (turn : Turn). is_done_transfer turn.0 turn.1) now.unit.turns)
@@ -122,6 +122,7 @@ finished_ended pair now ended at finished is =
       replicated = record {
         pair = pair;
         replicating = record { path = pair.source; work_is = at.work_is; pair_is = at.pair_is; goes_on = at.at_work.goes_on };
+        by_default = default;
         finished = subst (IsFinished pair) at.known_is finished;
         steps_are = refl;
       }
@@ -140,9 +141,9 @@ finished_ended pair now ended at finished is =
         rose = λ fault. absurd (no-fault fault);
       }
 
--- a unit that has listed all and done nothing else has ended in a conflict where its pair is not straight
-pub conflict-ended : (pair : Pair) (before now : Progress) → GoesOnWith pair before now → OnlyLists now.unit.turns → has_listed pair now.known ≡ true → is_straight pair now.known ≡ false → HasEndedAs before now (outcome.Conflict NOT_STRAIGHT)
-conflict-ended pair before now goes lists listed crooked =
+-- a unit that has listed all and done nothing else has ended in a conflict where it is not ready
+pub conflict-ended : (pair : Pair) (before now : Progress) → GoesOnWith pair before now → OnlyLists now.unit.turns → has_listed pair now.known ≡ true → is_ready pair now ≡ false → HasEndedAs before now (outcome.Conflict NOT_STRAIGHT)
+conflict-ended pair before now goes lists listed unready =
     let known_is = goes.at_work.known_is in
     ends-with pair before now now (outcome.Conflict NOT_STRAIGHT) goes (record {
       ended = record {
@@ -152,7 +153,7 @@ conflict-ended pair before now goes lists listed crooked =
           replicating = record { path = pair.source; work_is = goes.at_work.work_is; pair_is = goes.at_work.pair_is; goes_on = goes.at_work.at_work.goes_on };
           lists_alone = lists;
           listed = ap (has_listed pair) (sym known_is) ∙ listed;
-          not_straight = ap (is_straight pair) (sym known_is) ∙ crooked;
+          not_ready = ap (λ known. by_default now && is_straight pair known) (sym known_is) ∙ unready;
           number_is = refl;
         };
         records = λ base records. records;
@@ -160,3 +161,18 @@ conflict-ended pair before now goes lists listed crooked =
       };
       same_lent = refl;
     })
+
+-- a unit that is ready replicates by default a pair that is straight
+pub ready-parts : (pair : Pair) (now : Progress) → is_ready pair now ≡ true → (by_default now ≡ true) × (is_straight pair now.known ≡ true)
+ready-parts pair now e = both (by_default now) (is_straight pair now.known) e where
+  both : (a b : Bool) → (a && b) ≡ true → (a ≡ true) × (b ≡ true)
+  both true true e = (refl, refl)
+  both true false e = cc
+  both false b e = cc
+
+-- and still does so later
+pub default-later : (pair : Pair) (before now : Progress) → GoesOnWith pair before now → by_default before ≡ true → by_default now ≡ true
+default-later pair before now goes default =
+    ap (λ (j : Jobs). has_default_policy j now.unit.unit.job) goes.went.same_jobs
+    ∙ ap (λ (u : Unit). has_default_policy before.unit.jobs u.job) goes.went.same_unit
+    ∙ default

@@ -4,9 +4,9 @@ use Rattle.zr_names.specs.declared.outcome.Outcome.TheVariants as outcome
 use Rattle.zr_names.specs.declared.unit.Unit.{Unit}
 use Rattle.zr_names.specs.declared.unit.Work.{Work}
 use Rattle.zr_names.specs.declared.unit.Work.TheVariants as work
-use Rattle.zr_jobs.specs.declared.job.JobSet.{JobSet}
+use Rattle.zr_jobset.specs.Sets.{Jobs}
 use Rattle.zr_jobs.specs.declared.pair.Pair.{Pair}
-use Rattle.zr_jobs.specs.Jobs.{job_at, pair_of}
+use Rattle.zr_jobset.specs.Units.{pair_of}
 
 -- the work is to replicate a dataset
 abbrev pub IsReplicate : Work → Type 0
@@ -14,9 +14,9 @@ IsReplicate (work.Replicate path) = ⊤
 IsReplicate other = ⊥
 
 -- what a unit replicates
-pub record IsPairOf (jobs : JobSet) (unit : Unit) (pair : Pair) : Type 0 where
+pub record IsPairOf (jobs : Jobs) (unit : Unit) (pair : Pair) : Type 0 where
   pub work_is : unit.work ≡ work.Replicate pair.source
-  pub pair_is : pair_of (job_at jobs unit.job) pair.source ≡ Some pair
+  pub pair_is : pair_of jobs unit.job pair.source ≡ Some pair
 
 -- how a unit ends that has done this many transfers
 abbrev pub finished_with : ℕ → Outcome

@@ -1,4 +1,4 @@
-use Rattle.std.specs.Prelude.{◌≡◌, Bool, true, false, List, [], ◌∷◌, ◌++◌, ℕ, Some, Result, Ok, Err, filter, not, option_map}
+use Rattle.std.specs.Prelude.{◌≡◌, ◌&&◌, Bool, true, false, List, [], ◌∷◌, ◌++◌, ℕ, Some, Result, Ok, Err, filter, not, option_map}
 use Rattle.zr_names.specs.declared.outcome.Outcome.{Outcome}
 use Rattle.zr_names.specs.declared.unit.Work.TheVariants as work
 use Rattle.zr_command.specs.declared.command.Answer.TheVariants.{Done}
@@ -12,10 +12,11 @@ use Rattle.zr_command.specs.declared.version.VersionName.TheVariants.{Mark}
 use Rattle.zr_command.specs.declared.version.VersionRow.{VersionRow}
 use Rattle.zr_world.specs.Answering.{IsReplyTo}
 use Rattle.zr_jobs.specs.declared.pair.Pair.{Pair}
-use Rattle.zr_jobs.specs.Jobs.{job_at, pair_of}
+use Rattle.zr_jobset.specs.Units.{has_default_policy, pair_of}
 use Rattle.zr_known.specs.declared.known.Known.{Known}
 use Rattle.zr_known.specs.declared.known.Receiving.TheVariants.{Nothing}
 use Rattle.zr_known.specs.Known.{arrival, is_row_of, known_of, presence_after, set_among, source_row, told_by, with_last_held, with_step_held}
+use Rattle.zr_known.specs.Straight.{is_straight}
 use Rattle.zr_permit.specs.Sight.{Follows, HasEnded, IsAtWork, Sight, sight, Went}
 use Rattle.zr_world.specs.declared.zfs.Zfs.{Ghosts}
 use Rattle.zr_replicate.specs.declared.replication.Replication.{Replication}
@@ -38,9 +39,17 @@ progress ghosts replication = record {
 -- it is at work on its pair: what it knows is what its turns told
 pub record AtWork (pair : Pair) (now : Progress) : Type 0 where
   pub work_is : now.unit.unit.work ≡ work.Replicate pair.source
-  pub pair_is : pair_of (job_at now.unit.jobs now.unit.unit.job) pair.source ≡ Some pair
+  pub pair_is : pair_of now.unit.jobs now.unit.unit.job pair.source ≡ Some pair
   pub at_work : IsAtWork now.unit
   pub known_is : now.known ≡ known_of pair now.unit.turns
+
+-- its job replicates as by default
+abbrev pub by_default : Progress → Bool
+by_default now = has_default_policy now.unit.jobs now.unit.unit.job
+
+-- it can replicate its pair: as by default, and the pair is straight
+abbrev pub is_ready : Pair → Progress → Bool
+is_ready pair now = by_default now && is_straight pair now.known
 
 -- it is at work again
 pub record GoesOnWith (pair : Pair) (before now : Progress) : Type 0 where

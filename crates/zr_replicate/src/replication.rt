@@ -1,7 +1,7 @@
 //! A replication at work: its unit, what it knows, and how it begins and ends. Its stages stand in the other files.
 
 ghost use Rattle.std.specs.Prelude.{◌≡◌, ◌≢◌, [], IfOk, OnErr, OnOk, Some, true, count_by};
-ghost use Rattle.zr_jobs.specs.Jobs.{IsOfFile};
+ghost use Rattle.zr_jobset.specs.Units.{IsOfFile};
 ghost use Rattle.zr_known.specs.Known.{nothing_known, told_by};
 ghost use Rattle.zr_known.specs.Replication.{MayGive};
 ghost use Rattle.zr_known.specs.Straight.{IsFinished};
@@ -10,7 +10,8 @@ ghost use Rattle.zr_permit.specs.Sight.{HasEnded, HasJustBegun, sight};
 ghost use Rattle.zr_permit.specs.Transcript.{Turn};
 ghost use Rattle.zr_command.specs.declared.command.Answer.TheVariants.{Done};
 ghost use Rattle.zr_command.specs.declared.command.Reply.TheVariants as reply;
-ghost use Rattle.zr_replicate.specs.Progress.{AtWork, HasDone, HasEndedAs, HasTold, is_change, Learnt, progress, Stage};
+ghost use Rattle.zr_replicate.specs.Progress.{AtWork, by_default, HasDone, HasEndedAs, HasTold, is_change, is_ready, Learnt};
+ghost use Rattle.zr_replicate.specs.Progress.{progress, Stage};
 ghost use Rattle.zr_replicate.specs.Outcomes.{either_of, finished_with, IsPairOf, IsReplicate};
 
 use std::alloc::Global;
@@ -77,17 +78,25 @@ impl<'a, 'b, Z: Zfs> Replication<'a, 'b, Z> {
         self.give(pair, cmd)
     }
 
+    /// Whether the unit can replicate the pair: its job replicates as by default, and the pair is straight.
+    fn is_ready(&self, pair: &Pair) -> bool
+        ensures { result ≡ is_ready pair.now (progress Z.Zfs self.now) }
+    {
+        self.unit.jobs().has_default_policy(self.unit.unit().job) && self.known.is_straight(pair)
+    }
+
     /// How the unit ends once it has brought its target up to date.
     #[tactic(auto, using(crate::proofs::Turning::finished_ended))]
     fn outcome(&self, _pair: &Pair) -> Outcome
         requires at_work { AtWork _pair.now (progress Z.Zfs self.now) }
         requires finished { IsFinished _pair.now self.now.known.now }
+        requires by_default { by_default (progress Z.Zfs self.now) ≡ true }
         ensures { HasEndedAs (progress Z.Zfs self.now) (progress Z.Zfs self.now) result }
     {
         finished_with(done_transfers(self.unit.transcript()))
     }
 
-    /// Replicates a pair. Nothing is changed where it is not straight.
+    /// Replicates a pair. Nothing is changed where it is not straight, or its job does not replicate as by default.
     fn replicate_pair(&mut self, pair: &Pair) -> Result<Outcome, Outcome>
         requires at_work { AtWork pair.now (progress Z.Zfs self.old) }
         requires fresh { (progress Z.Zfs self.old).unit.turns ≡ [] }
@@ -97,7 +106,7 @@ impl<'a, 'b, Z: Zfs> Replication<'a, 'b, Z> {
         ensures lent { self.new.unit.ghost_name ≡ self.old.unit.ghost_name }
     {
         self.list_everything(pair)?;
-        if !self.known.is_straight(pair) {
+        if !self.is_ready(pair) {
             return Ok(Outcome::Conflict(NOT_STRAIGHT));
         }
         self.bring_up_to_date(pair)?;
@@ -159,7 +168,8 @@ fn either_of(ended: Result<Outcome, Outcome>) -> Outcome
 
 /// Replicates the unit's dataset to its target: lists both, holds each snapshot that is to be sent, sends it in full or
 /// from the cursor of the target's newest snapshot, and settles it, until the target has what the source has (zrepl's
-/// documentation, "Replication"). What is not straight is left as it is, with conflict 20.
+/// documentation, "Replication"). What is not straight is left as it is, with
+/// conflict 20, and so is what a job replicates in another way than by default.
 pub fn replicate<Z: Zfs>(alloc: Global, unit: &mut Guarded<'_, Z>) -> Outcome
     requires begun { HasJustBegun (sight Z.Zfs unit.old) }
     requires of_file { IsOfFile (sight Z.Zfs unit.old).jobs (sight Z.Zfs unit.old).unit }

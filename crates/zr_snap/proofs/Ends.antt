@@ -18,9 +18,8 @@ use Rattle.zr_permit.specs.Sight.{HasEnded, HasJustBegun, Sight, Went}
 use Rattle.zr_permit.specs.Turned.{IsRecordOf, IsRecordAfter, IsRecordOfUnit, Turns}
 use Rattle.zr_permit.proofs.Ending.{begun-at-work, ended-undone, went-nowhere}
 use Rattle.zr_snap.specs.Scanning.{Gives}
-use Rattle.zr_jobs.specs.declared.job.Job.{Job}
-use Rattle.zr_jobs.specs.declared.job.JobSet.{JobSet}
-use Rattle.zr_jobs.specs.Jobs.{fits_in, job_at, matched}
+use Rattle.zr_jobset.specs.Sets.{Jobs}
+use Rattle.zr_jobset.specs.Units.{fits_in, matched}
 use Rattle.zr_permit.specs.Result.{capped, ended_as, is_child_fault, is_out_of_memory, ResultOf}
 use Rattle.zr_permit.specs.Transcript.{Allowed, GoesOn, Permits, Transcript, Turn}
 
@@ -37,7 +36,7 @@ scan-ends unit_work is goes =
     subst Goes is goes
 
 -- a scan may list the datasets
-pub scan-allowed : (jobs : JobSet) (unit : Unit) (turns : Transcript) → turns ≡ [] → unit.work ≡ work.Scan → Allowed jobs unit turns cmd.Sets
+pub scan-allowed : (jobs : Jobs) (unit : Unit) (turns : Transcript) → turns ≡ [] → unit.work ≡ work.Scan → Allowed jobs unit turns cmd.Sets
 scan-allowed jobs unit turns none is =
     let Goes : Turn → Type 0 = λ turn. GoesOn unit.work turn.0 turn.1 in
     let All_go : Transcript → Type 0 = λ ts. All Goes ts in
@@ -49,14 +48,14 @@ scan-allowed jobs unit turns none is =
     }
 
 -- the outcome of a scan over a listing
-abbrev pub scanned : Option Job → List SetRow → Outcome
-scanned job rows = outcome.Scanned (capped (length (filter (fits_in job) (matched job rows)))) (capped (length (filter (λ path. not (fits_in job path)) (matched job rows))))
+abbrev pub scanned : Jobs → ℕ → List SetRow → Outcome
+scanned jobs number rows = outcome.Scanned (capped (length (filter (fits_in jobs number) (matched jobs number rows)))) (capped (length (filter (λ path. not (fits_in jobs number path)) (matched jobs number rows))))
 
 -- a scan that has listed the datasets has this result
-pub scanned-result : (jobs jobs' : JobSet) (unit unit' : Unit) (turns : Transcript) (rows : List SetRow) (ended : Outcome) → jobs' ≡ jobs → unit' ≡ unit → unit.work ≡ work.Scan → turns ≡ (cmd.Sets, answer.Done (reply.Sets rows)) ∷ [] → ended ≡ scanned (job_at jobs' unit'.job) rows → ResultOf jobs unit turns ended
+pub scanned-result : (jobs jobs' : Jobs) (unit unit' : Unit) (turns : Transcript) (rows : List SetRow) (ended : Outcome) → jobs' ≡ jobs → unit' ≡ unit → unit.work ≡ work.Scan → turns ≡ (cmd.Sets, answer.Done (reply.Sets rows)) ∷ [] → ended ≡ scanned jobs' unit'.job rows → ResultOf jobs unit turns ended
 scanned-result jobs jobs' unit unit' turns rows ended same_jobs same_unit is told ends =
-    let by_jobs : JobSet → Outcome = λ j. scanned (job_at j unit'.job) rows in
-    let by_unit : Unit → Outcome = λ u. scanned (job_at jobs u.job) rows in
+    let by_jobs : Jobs → Outcome = λ j. scanned j unit'.job rows in
+    let by_unit : Unit → Outcome = λ u. scanned jobs u.job rows in
     let of : Outcome → Type 0 = λ o. ResultOf jobs unit turns o in
     subst of (sym (ends ∙ ap by_jobs same_jobs ∙ ap by_unit same_unit)) (record {
       work_is = is;
@@ -75,9 +74,9 @@ scan-ended before now given ended begun is went turns rose records undone ended_
     ended-undone before now cmd.Sets given ended (begun-at-work before begun) went turns rose records undone (λ failed. scan-ends before.unit.work is) ended_is
 
 -- what is given of the same unit of the same jobs
-pub gives-same : (jobs jobs' : JobSet) (unit unit' : Unit) (turns : Transcript) (ended : Outcome) (units : List Unit) → jobs' ≡ jobs → unit' ≡ unit → Gives jobs' unit' turns ended units → Gives jobs unit turns ended units
+pub gives-same : (jobs jobs' : Jobs) (unit unit' : Unit) (turns : Transcript) (ended : Outcome) (units : List Unit) → jobs' ≡ jobs → unit' ≡ unit → Gives jobs' unit' turns ended units → Gives jobs unit turns ended units
 gives-same jobs jobs' unit unit' turns ended units same_jobs same_unit gives =
-    let by_jobs : JobSet → Type 0 = λ j. Gives j unit' turns ended units in
+    let by_jobs : Jobs → Type 0 = λ j. Gives j unit' turns ended units in
     let by_unit : Unit → Type 0 = λ u. Gives jobs u turns ended units in
     subst by_unit same_unit (subst by_jobs same_jobs gives)
 

@@ -8,7 +8,8 @@ ghost use Rattle.std.specs.Cmp.Lexicographic.{slice_cmp};
 ghost use Rattle.zr_base.specs.Count.{Rose};
 ghost use Rattle.zr_names.specs.declared.outcome.Outcome.TheVariants as outcome;
 ghost use Rattle.zr_names.specs.declared.unit.Work.TheVariants as work;
-ghost use Rattle.zr_jobs.specs.Jobs.{destination_of, fits_in, job_at, matched, prunings, replications, rules_of, units_at, UnitsOf};
+ghost use Rattle.zr_jobset.specs.Places.{place_at};
+ghost use Rattle.zr_jobset.specs.Units.{fits_in, matched, prunings, replications, rules_of, units_at, UnitsOf};
 ghost use Rattle.zr_permit.specs.Result.{capped, is_child_fault, is_out_of_memory, ResultOf};
 ghost use Rattle.zr_permit.specs.Sight.{HasEnded, HasJustBegun, IsAtWork, sight, Went};
 ghost use Rattle.zr_permit.specs.Turned.{HasTurned, is_no_memory, IsRecordOf, IsRecordAfter, Turns};
@@ -18,7 +19,7 @@ ghost use Rattle.zr_command.specs.declared.command.Entry.{Entry};
 
 use std::alloc::{AllocError, Global};
 use zr_command::{Answer, Cmd, Reply, SetRow};
-use zr_jobs::JobSet;
+use zr_jobset::JobSet;
 use zr_names::{Moment, Outcome, Path, Rows, Same, Unit, Work};
 use zr_permit::{Guarded, Told};
 use zr_world::Zfs;
@@ -31,8 +32,7 @@ fn fitting_paths(
     rows: &[SetRow],
 ) -> Result<Vec<Path>, AllocError>
     ensures { IfOk result (λ paths.
-        paths.items ≡ filter (fits_in (job_at jobs.now job))
-        (matched (job_at jobs.now job) rows.now)) }
+        paths.items ≡ filter (fits_in jobs.now job) (matched jobs.now job rows.now)) }
 {
     let mut paths = Vec::new(alloc);
     for row in rows {
@@ -46,8 +46,8 @@ fn fitting_paths(
 /// How many of the listed paths that a job's filter matches are too long to work on, or have a target that is.
 fn too_long_count(jobs: &JobSet, job: u32, rows: &[SetRow]) -> usize
     ensures { result ≡ length
-        (filter (λ path. not (fits_in (job_at jobs.now job) path))
-        (matched (job_at jobs.now job) rows.now)) }
+        (filter (λ path. not (fits_in jobs.now job path))
+        (matched jobs.now job rows.now)) }
 {
     let mut count = 0;
     for row in rows {
@@ -77,10 +77,10 @@ fn add_replication(
     path: &Path,
 ) -> Result<(), AllocError>
     ensures { OnOk result (units.new.items ≡
-        units.old.items ++ replications (destination_of (job_at jobs.now job)) job moment
+        units.old.items ++ replications (place_at jobs.now job) job moment
         path.now) }
 {
-    if jobs.destination(job).is_some() {
+    if jobs.has_place(job) {
         let work = Work::Replicate(path.same()?);
         units.push(Unit { job, moment, work })?;
     }
@@ -96,7 +96,7 @@ fn add_pruning(
     path: &Path,
 ) -> Result<(), AllocError>
     ensures { OnOk result (units.new.items ≡
-        units.old.items ++ prunings (rules_of (job_at jobs.now job)) job moment path.now) }
+        units.old.items ++ prunings (rules_of jobs.now job) job moment path.now) }
 {
     if !jobs.rules(job).is_empty() {
         let work = Work::PruneSource(path.same()?);
@@ -114,7 +114,7 @@ fn add_units(
     path: &Path,
 ) -> Result<(), AllocError>
     ensures { OnOk result (units.new.items ≡
-        units.old.items ++ units_at (job_at jobs.now job) job moment path.now) }
+        units.old.items ++ units_at jobs.now job moment path.now) }
 {
     add_replication(units, jobs, job, moment, path)?;
     add_pruning(units, jobs, job, moment, path)
@@ -129,7 +129,7 @@ fn units_on(
     paths: &[Path],
 ) -> Result<Vec<Unit>, AllocError>
     ensures { IfOk result (λ units.
-        units.items ≡ flat_map (units_at (job_at jobs.now job) job moment) paths.now) }
+        units.items ≡ flat_map (units_at jobs.now job moment) paths.now) }
 {
     let mut units = Vec::new(alloc);
     for path in paths {
@@ -146,10 +146,10 @@ fn find_units(
     rows: &[SetRow],
 ) -> Result<(Outcome, Vec<Unit>), AllocError>
     ensures found { IfOk result (λ found. found.0 ≡ outcome.Scanned
-        (capped (length (filter (fits_in (job_at jobs.now unit.now.job))
-        (matched (job_at jobs.now unit.now.job) rows.now))))
-        (capped (length (filter (λ path. not (fits_in (job_at jobs.now unit.now.job) path))
-        (matched (job_at jobs.now unit.now.job) rows.now))))) }
+        (capped (length (filter (fits_in jobs.now unit.now.job)
+        (matched jobs.now unit.now.job rows.now))))
+        (capped (length (filter (λ path. not (fits_in jobs.now unit.now.job path))
+        (matched jobs.now unit.now.job rows.now))))) }
     ensures units { IfOk result
         (λ found. UnitsOf jobs.now unit.now.job unit.now.moment rows.now found.1.items) }
 {

@@ -1,5 +1,5 @@
-use Rattle.std.proofs.Common.{◌≡◌, ◌∙◌, ℕ, zero, suc, ◌+◌, ◌<◌, List, [], ◌∷◌, ◌++◌, Option, Some, None, ap, append-nil, append_assoc, arith, inl, inr, refl, subst, sym, length, map}
-use Rattle.std.specs.List.{All, AllZip, range_with_len}
+use Rattle.std.proofs.Common.{◌≡◌, ◌∙◌, ℕ, true, List, [], ◌∷◌, ◌++◌, Option, Some, None, ap, append-nil, append_assoc, inl, inr, refl, subst, sym, map}
+use Rattle.std.specs.List.{All, AllZip}
 use Rattle.std.proofs.lemmas.List.Elements.{All-append, All-cons, All-head, All-nil}
 use Rattle.std.proofs.lemmas.Grind.{flat_map-append}
 use Rattle.zr_names.specs.declared.outcome.Outcome.{Outcome}
@@ -7,13 +7,13 @@ use Rattle.zr_names.specs.declared.totals.Totals.{Totals}
 use Rattle.zr_names.specs.declared.unit.Unit.{Unit}
 use Rattle.zr_command.specs.declared.command.Entry.{Entry}
 use Rattle.zr_world.specs.Answering.{appended}
-use Rattle.zr_jobs.specs.declared.job.JobSet.{JobSet}
-use Rattle.zr_jobs.specs.Jobs.{IsOfFile}
+use Rattle.zr_jobset.specs.Sets.{Jobs}
+use Rattle.zr_jobset.specs.Units.{IsOfFile, is_scanned}
 use Rattle.zr_permit.specs.Runs.{Ran}
 use Rattle.zr_top.specs.Units.{IsDueUnit}
 use Rattle.zr_names.specs.Totals.{plus}
 use Rattle.zr_top.specs.Attempts.{AreNumbered, Attempt, Attempted, entries, IsGood, IsNumbered, no_totals, run_entries, tallied, tallied_all}
-use Rattle.zr_top.specs.Due.{Found, first_scans, joined, RanDue, RunUpTo, scan_of, ScanRan, ScansRan}
+use Rattle.zr_top.specs.Due.{due_jobs, Found, joined, RanDue, RunUpTo, scan_of, ScanRan, ScansRan}
 
 abbrev unit_of : Attempt → Unit
 unit_of a = a.unit
@@ -58,7 +58,7 @@ numbered-then start then' one other is first second =
     numbered-append one other start first (subst (λ (t : Totals). AreNumbered t other) is second)
 
 -- no unit was due
-pub attempted-none : (jobs : JobSet) (told : Option (List Entry)) (start : Totals) → Attempted jobs [] told told start start
+pub attempted-none : (jobs : Jobs) (told : Option (List Entry)) (start : Totals) → Attempted jobs [] told told start start
 attempted-none jobs told start = record {
   attempts = [];
   units_are = refl;
@@ -69,7 +69,7 @@ attempted-none jobs told start = record {
 }
 
 -- some units after others
-pub attempted-then : (jobs : JobSet) (due more : List Unit) (before mid now : Option (List Entry)) (start then' totals : Totals) → Attempted jobs due before mid start then' → Attempted jobs more mid now then' totals → Attempted jobs (due ++ more) before now start totals
+pub attempted-then : (jobs : Jobs) (due more : List Unit) (before mid now : Option (List Entry)) (start then' totals : Totals) → Attempted jobs due before mid start then' → Attempted jobs more mid now then' totals → Attempted jobs (due ++ more) before now start totals
 attempted-then jobs due more before mid now start then' totals one other = record {
   attempts = one.attempts ++ other.attempts;
   units_are = units-append one.attempts other.attempts ∙ ap (λ us. us ++ map unit_of other.attempts) one.units_are ∙ ap (λ us. due ++ us) other.units_are;
@@ -82,7 +82,7 @@ attempted-then jobs due more before mid now start then' totals one other = recor
 one-recorded : (before now : Option (List Entry)) (attempt : Attempt) → now ≡ appended before (entries_in attempt) → now ≡ appended before (entries (attempt ∷ []))
 one-recorded before now attempt recorded = recorded ∙ ap (appended before) (sym (append-nil (entries_in attempt)))
 
-one-attempted : (jobs : JobSet) (before now : Option (List Entry)) (start : Totals) (attempt : Attempt) → IsGood jobs attempt → IsNumbered (plus start.due 1) attempt.begun → now ≡ appended before (entries_in attempt) → Attempted jobs (attempt.unit ∷ []) before now start (tallied attempt.ended start)
+one-attempted : (jobs : Jobs) (before now : Option (List Entry)) (start : Totals) (attempt : Attempt) → IsGood jobs attempt → IsNumbered (plus start.due 1) attempt.begun → now ≡ appended before (entries_in attempt) → Attempted jobs (attempt.unit ∷ []) before now start (tallied attempt.ended start)
 one-attempted jobs before now start attempt good numbered recorded = record {
   attempts = attempt ∷ [];
   units_are = refl;
@@ -93,7 +93,7 @@ one-attempted jobs before now start attempt good numbered recorded = record {
 }
 
 -- a unit that was run, or could not begin
-pub attempted-run : (jobs : JobSet) (unit : Unit) (run : ℕ) (before now : Option (List Entry)) (start : Totals) (ended : Outcome) → IsOfFile jobs unit → run ≡ plus start.due 1 → Ran jobs unit run before now ended → Attempted jobs (unit ∷ []) before now start (tallied ended start)
+pub attempted-run : (jobs : Jobs) (unit : Unit) (run : ℕ) (before now : Option (List Entry)) (start : Totals) (ended : Outcome) → IsOfFile jobs unit → run ≡ plus start.due 1 → Ran jobs unit run before now ended → Attempted jobs (unit ∷ []) before now start (tallied ended start)
 attempted-run jobs unit run before now start ended of_file next (inl ran) =
     let attempt : Attempt = record { unit = unit; begun = Some (run, ran.turns); ended = ended } in
     one-attempted jobs before now start attempt (record { of_file = of_file; ends_well = (ran.legal, ran.result) }) next ran.recorded
@@ -102,7 +102,7 @@ attempted-run jobs unit run before now start ended of_file next (inr none) =
     one-attempted jobs before now start attempt (record { of_file = of_file; ends_well = none.0 }) tt (none.1 ∙ sym (appended-nil before))
 
 -- no unit of some was run yet
-pub run-none : (jobs : JobSet) (all : List Unit) (told : Option (List Entry)) (start : Totals) → RunUpTo jobs all all told told start start
+pub run-none : (jobs : Jobs) (all : List Unit) (told : Option (List Entry)) (start : Totals) → RunUpTo jobs all all told told start start
 run-none jobs all told start = record {
   run = [];
   parts = refl;
@@ -110,7 +110,7 @@ run-none jobs all told start = record {
 }
 
 -- one unit more of some was run
-pub run-more : (jobs : JobSet) (all left rest : List Unit) (unit : Unit) (run : ℕ) (before mid now : Option (List Entry)) (start then' totals : Totals) (ended : Outcome) → RunUpTo jobs all left before mid start then' → left ≡ unit ∷ rest → IsOfFile jobs unit → run ≡ plus then'.due 1 → Ran jobs unit run mid now ended → totals ≡ tallied ended then' → RunUpTo jobs all rest before now start totals
+pub run-more : (jobs : Jobs) (all left rest : List Unit) (unit : Unit) (run : ℕ) (before mid now : Option (List Entry)) (start then' totals : Totals) (ended : Outcome) → RunUpTo jobs all left before mid start then' → left ≡ unit ∷ rest → IsOfFile jobs unit → run ≡ plus then'.due 1 → Ran jobs unit run mid now ended → totals ≡ tallied ended then' → RunUpTo jobs all rest before now start totals
 run-more jobs all left rest unit run before mid now start then' totals ended up_to is of_file next ran counted =
     let at : Totals → Type 0 = λ t. Attempted jobs (up_to.run ++ unit ∷ []) before now start t in
     record {
@@ -120,7 +120,7 @@ run-more jobs all left rest unit run before mid now start then' totals ended up_
     }
 
 -- the units of one scan more were run
-pub run-joined : (jobs : JobSet) (all left rest : List (List Unit)) (units : List Unit) (before mid now : Option (List Entry)) (start then' totals : Totals) → RunUpTo jobs (joined all) (joined left) before mid start then' → left ≡ units ∷ rest → Attempted jobs units mid now then' totals → RunUpTo jobs (joined all) (joined rest) before now start totals
+pub run-joined : (jobs : Jobs) (all left rest : List (List Unit)) (units : List Unit) (before mid now : Option (List Entry)) (start then' totals : Totals) → RunUpTo jobs (joined all) (joined left) before mid start then' → left ≡ units ∷ rest → Attempted jobs units mid now then' totals → RunUpTo jobs (joined all) (joined rest) before now start totals
 run-joined jobs all left rest units before mid now start then' totals up_to is ran = record {
   run = up_to.run ++ units;
   parts = append_assoc up_to.run units (joined rest) ∙ ap (λ us. up_to.run ++ joined us) (sym is) ∙ up_to.parts;
@@ -128,37 +128,35 @@ run-joined jobs all left rest units before mid now start then' totals up_to is r
 }
 
 -- the first of some units
-pub first-of : (jobs : JobSet) (unit : Unit) (rest all : List Unit) → all ≡ unit ∷ rest → All (IsDueUnit jobs) all → IsOfFile jobs unit
+pub first-of : (jobs : Jobs) (unit : Unit) (rest all : List Unit) → all ≡ unit ∷ rest → All (IsDueUnit jobs) all → IsOfFile jobs unit
 first-of jobs unit rest all is each =
     let due : List Unit → Type 0 = All (IsDueUnit jobs) in
     (All-head (IsDueUnit jobs) unit rest (subst due is each)).of_file
 
 -- a scan is a unit of the job file
-pub scan-of-file : (jobs : JobSet) (job moment : ℕ) → job < length jobs.jobs → IsOfFile jobs (scan_of moment job)
-scan-of-file jobs job moment inside = record {
-  in_file = inside;
+pub scan-of-file : (jobs : Jobs) (job moment : ℕ) → is_scanned jobs job ≡ true → IsOfFile jobs (scan_of moment job)
+scan-of-file jobs job moment scanned = record {
+  of_job = scanned;
   work_is = tt;
 }
 
-one-more : (from count : ℕ) → range_with_len from (count + 1) ≡ range_with_len from count ++ (from + count) ∷ []
-one-more from zero = let same : from ≡ from + 0 = omega arith in ap (λ n. n ∷ []) same
-one-more from (suc count) =
-    let longer : suc count + 1 ≡ suc (count + 1) = omega arith in
-    let next : (from + 1) + count ≡ from + suc count = omega arith in
-    ap (range_with_len from) longer ∙ ap (λ ns. from ∷ ns) (one-more (from + 1) count) ∙ ap (λ n. from ∷ range_with_len (from + 1) count ++ n ∷ []) next
+-- no scan was run yet
+pub scanned-none : (jobs : Jobs) (moment : ℕ) (told : Option (List Entry)) (start : Totals) → ScansRan jobs moment [] told told start start []
+scanned-none jobs moment told start = record {
+  attempts = [];
+  units_are = refl;
+  good = All-nil (IsGood jobs);
+  recorded = sym (appended-nil told);
+  numbered = tt;
+  totals_are = refl;
+  found_are = tt;
+}
 
 map-last : (moment : ℕ) (numbers : List ℕ) (number : ℕ) → map (scan_of moment) (numbers ++ number ∷ []) ≡ map (scan_of moment) numbers ++ scan_of moment number ∷ []
 map-last moment [] number = refl
 map-last moment (n ∷ numbers) number = ap (λ us. scan_of moment n ∷ us) (map-last moment numbers number)
 
--- the scans of one job more
-scans-more : (moment count : ℕ) → first_scans moment (count + 1) ≡ first_scans moment count ++ scan_of moment count ∷ []
-scans-more moment count =
-    let last : 0 + count ≡ count = omega arith in
-    ap (map (scan_of moment)) (one-more 0 count) ∙ map-last moment (range_with_len 0 count) (0 + count)
-    ∙ ap (λ n. first_scans moment count ++ scan_of moment n ∷ []) last
-
-zip-more : (jobs : JobSet) (attempts : List Attempt) (found : List (List Unit)) (attempt : Attempt) (units : List Unit) → AllZip (Found jobs) attempts found → Found jobs attempt units → AllZip (Found jobs) (attempts ++ attempt ∷ []) (found ++ units ∷ [])
+zip-more : (jobs : Jobs) (attempts : List Attempt) (found : List (List Unit)) (attempt : Attempt) (units : List Unit) → AllZip (Found jobs) attempts found → Found jobs attempt units → AllZip (Found jobs) (attempts ++ attempt ∷ []) (found ++ units ∷ [])
 zip-more jobs [] [] attempt units each finds = (finds, tt)
 zip-more jobs [] (us ∷ found) attempt units each finds = absurd each
 zip-more jobs (a ∷ attempts) [] attempt units each finds = absurd each
@@ -166,13 +164,13 @@ zip-more jobs (a ∷ attempts) (us ∷ found) attempt units each finds =
     (each.0, zip-more jobs attempts found attempt units each.1 finds)
 
 -- the scan of one job more was run
-pub scanned-more : (jobs : JobSet) (moment count run : ℕ) (before mid now : Option (List Entry)) (start then' totals : Totals) (ended : Outcome) (found : List (List Unit)) (units : List Unit) → count < length jobs.jobs → ScansRan jobs moment count before mid start then' found → ScanRan jobs (scan_of moment count) run mid now ended units → run ≡ plus then'.due 1 → totals ≡ tallied ended then' → ScansRan jobs moment (count + 1) before now start totals (found ++ units ∷ [])
-scanned-more jobs moment count run before mid now start then' totals ended found units inside scans scan next counted =
-    let attempt : Attempt = record { unit = scan_of moment count; begun = scan.begun; ended = ended } in
-    let good : IsGood jobs attempt = record { of_file = scan-of-file jobs count moment inside; ends_well = scan.ends_well } in
+pub scanned-more : (jobs : Jobs) (moment : ℕ) (numbers : List ℕ) (number run : ℕ) (before mid now : Option (List Entry)) (start then' totals : Totals) (ended : Outcome) (found : List (List Unit)) (units : List Unit) → is_scanned jobs number ≡ true → ScansRan jobs moment numbers before mid start then' found → ScanRan jobs (scan_of moment number) run mid now ended units → run ≡ plus then'.due 1 → totals ≡ tallied ended then' → ScansRan jobs moment (numbers ++ number ∷ []) before now start totals (found ++ units ∷ [])
+scanned-more jobs moment numbers number run before mid now start then' totals ended found units due scans scan next counted =
+    let attempt : Attempt = record { unit = scan_of moment number; begun = scan.begun; ended = ended } in
+    let good : IsGood jobs attempt = record { of_file = scan-of-file jobs number moment due; ends_well = scan.ends_well } in
     record {
       attempts = scans.attempts ++ attempt ∷ [];
-      units_are = units-append scans.attempts (attempt ∷ []) ∙ ap (λ us. us ++ attempt.unit ∷ []) scans.units_are ∙ sym (scans-more moment count);
+      units_are = units-append scans.attempts (attempt ∷ []) ∙ ap (λ us. us ++ attempt.unit ∷ []) scans.units_are ∙ sym (map-last moment numbers number);
       good = All-append (IsGood jobs) scans.attempts (attempt ∷ []) scans.good (All-cons (IsGood jobs) attempt [] good (All-nil (IsGood jobs)));
       recorded = recorded-then before mid now scans.attempts (attempt ∷ []) scans.recorded (one-recorded mid now attempt scan.recorded);
       numbered = numbered-then start then' scans.attempts (attempt ∷ []) scans.totals_are scans.numbered (subst (λ (n : ℕ). IsNumbered n scan.begun) next scan.numbered, tt);
@@ -181,7 +179,7 @@ scanned-more jobs moment count run before mid now start then' totals ended found
     }
 
 -- all that was due was attempted: the scans, and then the units that they found
-pub ran-due : (jobs : JobSet) (moment : ℕ) (before mid now : Option (List Entry)) (start then' totals : Totals) (found : List (List Unit)) → start ≡ no_totals → ScansRan jobs moment (length jobs.jobs) before mid start then' found → Attempted jobs (joined found) mid now then' totals → RanDue jobs (Some moment) before now totals
+pub ran-due : (jobs : Jobs) (moment : ℕ) (before mid now : Option (List Entry)) (start then' totals : Totals) (found : List (List Unit)) → start ≡ no_totals → ScansRan jobs moment (due_jobs jobs) before mid start then' found → Attempted jobs (joined found) mid now then' totals → RanDue jobs (Some moment) before now totals
 ran-due jobs moment before mid now start then' totals found zeros scans others = record {
   attempts = scans.attempts ++ others.attempts;
   due = record {

@@ -8,3 +8,4 @@ pub mod Recording
 pub mod Rising
 pub mod Fronts
 pub mod Plain
+pub mod Ranges

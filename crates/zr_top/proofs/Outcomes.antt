@@ -3,7 +3,7 @@ use Rattle.std.specs.List.{All, Contains}
 use Rattle.std.proofs.lemmas.List.Elements.{All-cons, All-head, All-nil, All-tail}
 use Rattle.zr_names.specs.declared.outcome.Outcome.{Outcome}
 use Rattle.zr_names.specs.declared.outcome.Outcome.TheVariants as outcome
-use Rattle.zr_jobs.specs.declared.job.JobSet.{JobSet}
+use Rattle.zr_jobset.specs.Sets.{Jobs}
 use Rattle.zr_permit.specs.Result.{is_child_fault, is_out_of_memory}
 use Rattle.zr_permit.specs.Transcript.{Transcript}
 use Rattle.zr_permit.proofs.Honest.{legal-honest}
@@ -14,16 +14,16 @@ use Rattle.zr_top.specs.Outcomes.{AllFinished, AllHonest, Destroys, FinishedOr, 
 use Rattle.zr_top.specs.Status.{code_of, is_conflict_or_too_long, is_garbled, Printed, some_ended, status_of_runs}
 use Rattle.zr_top.proofs.Ending.{first_of}
 
-destroys : (jobs : JobSet) (attempt : Attempt) → IsGood jobs attempt → Destroys jobs attempt.unit attempt.begun
+destroys : (jobs : Jobs) (attempt : Attempt) → IsGood jobs attempt → Destroys jobs attempt.unit attempt.begun
 destroys jobs attempt good = choose attempt.begun good.ends_well where
   choose : (begun : Option (ℕ × Transcript)) → EndsWell jobs attempt.unit attempt.ended begun → Destroys jobs attempt.unit begun
   choose None ends = tt
   choose (Some begun) ends = legal-honest jobs attempt.unit begun.1 ends.0
 
-abbrev Honest_in : JobSet → Attempt → Type 0
+abbrev Honest_in : Jobs → Attempt → Type 0
 Honest_in jobs a = Destroys jobs a.unit a.begun
 
-pub all-honest : (jobs : JobSet) (attempts : List Attempt) → All (IsGood jobs) attempts → AllHonest jobs attempts
+pub all-honest : (jobs : Jobs) (attempts : List Attempt) → All (IsGood jobs) attempts → AllHonest jobs attempts
 all-honest jobs [] good = All-nil (Honest_in jobs)
 all-honest jobs (a ∷ attempts) good =
     All-cons (Honest_in jobs) a attempts (destroys jobs a (All-head (IsGood jobs) a attempts good)) (all-honest jobs attempts (All-tail (IsGood jobs) a attempts good))

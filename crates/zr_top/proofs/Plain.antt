@@ -3,8 +3,8 @@ use Rattle.std.proofs.Common.{◌≡◌, ◌∙◌, ℕ, ◌<◌, List, ap, arit
 use Rattle.std.specs.List.{All}
 use Rattle.std.proofs.lemmas.List.{get_or-map, length-map}
 use Rattle.zr_rules.specs.declared.rule.RuleSpec.{RuleSpec}
-use Rattle.zr_jobs.specs.declared.job.Job.{Job}
-use Rattle.zr_jobs.specs.Jobs.{IsPlain}
+use Rattle.zr_jobset.specs.declared.job.Job.{Job}
+use Rattle.zr_jobset.specs.Units.{IsPlain}
 
 -- the rules of each job are plain where those of all are
 pub plain-at : (jobs : List Job) (i : ℕ) (job : Job) → All (All IsPlain) (map (λ (j : Job). j.keep_source) jobs) → i < length jobs → job ≡ get_or jobs i job → All IsPlain job.keep_source

@@ -2,7 +2,7 @@ use Rattle.std.proofs.Common.{◌≡◌, ◌≢◌, ◌<◌, ◌∙◌, ℕ, ◌
 use Rattle.std.specs.Io.KnownBytes.{append_known}
 use Rattle.std.specs.List.{All, Contains}
 use Rattle.zr_names.specs.declared.totals.Totals.{Totals}
-use Rattle.zr_jobs.specs.declared.job.JobSet.{JobSet}
+use Rattle.zr_jobset.specs.Sets.{Jobs}
 use Rattle.zr_top.specs.declared.status.Status.{Status}
 use Rattle.zr_top.specs.declared.status.Status.TheVariants as status
 use Rattle.zr_permit.specs.Result.{is_child_fault, is_out_of_memory}
@@ -25,7 +25,7 @@ use Rattle.zr_top.proofs.Fronts.{wrote-nothing}
 use Rattle.zr_top.proofs.Outcomes.{all-honest, means}
 
 -- what was due was run with children of the program that was asked for, by the record that is read so
-pub of-program : (jobs : JobSet) (moment : Option ℕ) (program asked : List ℕ) (before now : Told) (totals : Totals) → RanDue jobs moment (entries_of asked before) (entries_of program now) totals → RanDue jobs moment (entries_of asked before) (entries_of asked now) totals
+pub of-program : (jobs : Jobs) (moment : Option ℕ) (program asked : List ℕ) (before now : Told) (totals : Totals) → RanDue jobs moment (entries_of asked before) (entries_of program now) totals → RanDue jobs moment (entries_of asked before) (entries_of asked now) totals
 of-program jobs moment program asked before now totals ran = record {
   attempts = ran.attempts;
   due = ran.due;
@@ -43,7 +43,7 @@ is-next (Some (moment ∷ moments)) tick None ticks = absurd ticks
 is-next (Some (moment ∷ moments)) tick (Some left) ticks = ticks.0
 
 -- what was due was run with one runner of children of `zfs`, which was given back
-pub ran-next : (jobs : JobSet) (moments : Option (List ℕ)) (tick : Option ℕ) (after : Option (List ℕ)) (totals : Totals) (R : Type 0) (told : R → Told) (program : List ℕ) (child : R) (begun left : Running R) (given : R) → Ticks moments tick after → begun ≡ record { program = program; children = child } → program ≡ zfs → given ≡ left.children → RanDue jobs tick (entries_of begun.program (told begun.children)) (entries_of left.program (told left.children)) totals → RanNext jobs moments (told child) (told given) totals
+pub ran-next : (jobs : Jobs) (moments : Option (List ℕ)) (tick : Option ℕ) (after : Option (List ℕ)) (totals : Totals) (R : Type 0) (told : R → Told) (program : List ℕ) (child : R) (begun left : Running R) (given : R) → Ticks moments tick after → begun ≡ record { program = program; children = child } → program ≡ zfs → given ≡ left.children → RanDue jobs tick (entries_of begun.program (told begun.children)) (entries_of left.program (told left.children)) totals → RanNext jobs moments (told child) (told given) totals
 ran-next jobs moments tick after totals R told program child begun left given ticks begins is gives ran =
     let Begun : Running R → Type 0 = λ b. RanDue jobs tick (entries_of b.program (told b.children)) (entries_of left.program (told left.children)) totals in
     let Of : List ℕ → Type 0 = λ p. RanDue jobs tick (entries_of p (told child)) (entries_of p (told left.children)) totals in
@@ -59,7 +59,7 @@ memory-status attempts memory =
     ap (λ (b : Bool). first_of b (some_ended is_garbled attempts) (some_ended is_child_fault attempts) (some_ended is_conflict_or_too_long attempts)) memory
 
 -- what was due at a clock's next moment and was attempted, with its totals
-pub record RanFirst (jobs : JobSet) (moments : Option (List ℕ)) (totals : Totals) : Type 0 where
+pub record RanFirst (jobs : Jobs) (moments : Option (List ℕ)) (totals : Totals) : Type 0 where
   pub moment : Option ℕ
   pub next : IsNext moments moment
   pub attempts : List Attempt
@@ -81,7 +81,7 @@ abbrev pub TotalsRose : Totals → View → View → Type 0
 TotalsRose totals before now = 0 < totals.faults → FirstRose before.child_faults now.child_faults
 
 -- the first runner ran all that was due, of these records
-pub first-next : (jobs : JobSet) (moments : Option (List ℕ)) (before now : List Told) (totals : Totals) → FirstNext jobs moments before now totals → (ran : RanFirst jobs moments totals) × FirstHas before now ran.attempts
+pub first-next : (jobs : Jobs) (moments : Option (List ℕ)) (before now : List Told) (totals : Totals) → FirstNext jobs moments before now totals → (ran : RanFirst jobs moments totals) × FirstHas before now ran.attempts
 first-next jobs moments [] now totals ran = absurd ran
 first-next jobs moments (b ∷ others) [] totals ran = absurd ran
 first-next jobs moments (b ∷ others) (n ∷ left) totals ran = (
@@ -98,7 +98,7 @@ first-next jobs moments (b ∷ others) (n ∷ left) totals ran = (
 )
 
 -- all that was due was attempted with the first runner, and the totals were printed
-pub ran-jobs : (jobs : JobSet) (moments : Option (List ℕ)) (before now : View) (totals : Totals) (given : Status) → FirstRan jobs moments before.records now.records (Ok totals) → TotalsRose totals before now → LinePrinted totals before now given → RanJobs jobs moments before now given
+pub ran-jobs : (jobs : Jobs) (moments : Option (List ℕ)) (before now : View) (totals : Totals) (given : Status) → FirstRan jobs moments before.records now.records (Ok totals) → TotalsRose totals before now → LinePrinted totals before now given → RanJobs jobs moments before now given
 ran-jobs jobs moments before now totals given ran rose line =
     let first = first-next jobs moments before.records now.records totals ran in
     let attempts = first.0.attempts in
@@ -226,7 +226,7 @@ no-jobs-unrun file before now given why same unrun loud whole silent = choose wh
   choose fault.TooManyBytes loud whole silent = refused fault.TooManyBytes too-long (loud too-long) (whole too-long)
 
 -- the jobs of some bytes were run, or nothing was
-pub bytes-ran : (file bytes : List ℕ) (jobs : JobSet) (moments : Option (List ℕ)) (before now : View) (given : Status) → ReadsJobs bytes (Ok jobs) → Unrun file before now given ⊎ RanJobs jobs moments before now given → Unrun file before now given ⊎ RanBytes bytes moments before now given
+pub bytes-ran : (file bytes : List ℕ) (jobs : Jobs) (moments : Option (List ℕ)) (before now : View) (given : Status) → ReadsJobs bytes (Ok jobs) → Unrun file before now given ⊎ RanJobs jobs moments before now given → Unrun file before now given ⊎ RanBytes bytes moments before now given
 bytes-ran file bytes jobs moments before now given reads (inl unrun) = inl unrun
 bytes-ran file bytes jobs moments before now given reads (inr ran) =
     inr (record { jobs = jobs; of_file = reads; ran = ran })

@@ -1,7 +1,7 @@
 use Rattle.std.proofs.Common.{◌≡◌, ◌≢◌, ◌∙◌, ℕ, ◌≤◌, List, [], ◌∷◌, Ok, Err, Option, Some, None, arith, inl, inr, refl, subst, sym, length, lit<}
 use Rattle.std.specs.List.{Contains}
 use Rattle.toml.specs.Data.{Members}
-use Rattle.zr_jobs.specs.declared.job.JobSet.{JobSet}
+use Rattle.zr_jobset.specs.Sets.{Jobs}
 use Rattle.zr_jobfile.specs.declared.JobFault.{JobFault}
 use Rattle.zr_jobfile.specs.declared.JobFault.TheVariants.{TooManyBytes, NotToml, NotBuilt, NoMemory}
 use Rattle.zr_jobfile.specs.JobFile.{IsJobFile, IsText, ReadsJobs}
@@ -13,7 +13,7 @@ use Rattle.zr_top.specs.Stored.{Asked, AsksAtMost}
 same-tree : (bytes : List ℕ) (one other : Members) → IsText bytes one → IsText bytes other → other ≡ one
 same-tree bytes one other a b = let e : Some other ≡ Some one = sym b.parsed ∙ a.parsed in cc
 
-no-fault : (bytes : List ℕ) (jobs : JobSet) (fault : JobFault) → ReadsJobs bytes (Ok jobs) → fault ≢ NoMemory → ReadsJobs bytes (Err fault) → ⊥
+no-fault : (bytes : List ℕ) (jobs : Jobs) (fault : JobFault) → ReadsJobs bytes (Ok jobs) → fault ≢ NoMemory → ReadsJobs bytes (Err fault) → ⊥
 no-fault bytes jobs TooManyBytes reads other by =
     let short : length bytes ≤ 1048576 = reads.1.short in
     omega (arith, by)
@@ -26,7 +26,7 @@ no-fault bytes jobs NotBuilt reads other by =
 no-fault bytes jobs NoMemory reads other by = other refl
 
 -- bytes that are read as jobs are not refused
-pub read-not-refused : (bytes : List ℕ) (jobs : JobSet) → ReadsJobs bytes (Ok jobs) → IsRefused bytes → ⊥
+pub read-not-refused : (bytes : List ℕ) (jobs : Jobs) → ReadsJobs bytes (Ok jobs) → IsRefused bytes → ⊥
 read-not-refused bytes jobs reads refused = no-fault bytes jobs refused.fault reads refused.not_memory refused.by_fault
 
 -- the status of this code

@@ -7,8 +7,8 @@ use Rattle.zr_names.specs.Totals.{counted, plus}
 use Rattle.zr_command.specs.declared.command.Entry.{Entry}
 use Rattle.zr_command.specs.declared.command.Entry.TheVariants.{Begin}
 use Rattle.zr_world.specs.Answering.{appended}
-use Rattle.zr_jobs.specs.declared.job.JobSet.{JobSet}
-use Rattle.zr_jobs.specs.Jobs.{IsOfFile}
+use Rattle.zr_jobset.specs.Sets.{Jobs}
+use Rattle.zr_jobset.specs.Units.{IsOfFile}
 use Rattle.zr_permit.specs.Runs.{EndsAs}
 use Rattle.zr_permit.specs.Transcript.{Legal, Transcript}
 use Rattle.zr_permit.specs.Turned.{calls}
@@ -29,13 +29,13 @@ entries attempts = flat_map (λ (a : Attempt). run_entries a.unit a.begun) attem
 
 -- a begun run is legal and ended with its result, and with want of memory only where no command failed and no listing was
 -- garbled before it; only for want of memory a unit is not begun
-abbrev pub EndsWell : JobSet → Unit → Outcome → Option (ℕ × Transcript) → Type 0
+abbrev pub EndsWell : Jobs → Unit → Outcome → Option (ℕ × Transcript) → Type 0
 EndsWell jobs unit ended None = ended ≡ outcome.NoMemory
 EndsWell jobs unit ended (Some begun) =
     Legal jobs unit begun.1 × EndsAs jobs unit begun.1 ended
 
 -- a unit of the job file that ended as its transcript says
-pub record IsGood (jobs : JobSet) (attempt : Attempt) : Type 0 where
+pub record IsGood (jobs : Jobs) (attempt : Attempt) : Type 0 where
   pub of_file : IsOfFile jobs attempt.unit
   pub ends_well : EndsWell jobs attempt.unit attempt.ended attempt.begun
 
@@ -60,7 +60,7 @@ AreNumbered t (a ∷ attempts) = IsNumbered (plus t.due 1) a.begun × AreNumbere
 
 -- these units were attempted, each once and in this order: the runner's record has their begun runs more,
 -- each legal and with its result, and the totals count them
-pub record Attempted (jobs : JobSet) (due : List Unit) (before now : Option (List Entry)) (start totals : Totals) : Type 0 where
+pub record Attempted (jobs : Jobs) (due : List Unit) (before now : Option (List Entry)) (start totals : Totals) : Type 0 where
   pub attempts : List Attempt
   pub units_are : map (λ (a : Attempt). a.unit) attempts ≡ due
   pub good : All (IsGood jobs) attempts

@@ -1,7 +1,7 @@
 use Rattle.std.specs.Prelude.{◌≡◌, ◌+◌, ◌++◌, ◌∷◌, [], ℕ, List, Option, Some, None, Ok, Contains, codes, take}
 use Rattle.std.specs.Io.KnownBytes.{append_known}
 use Rattle.zr_base.specs.Count.{Rose}
-use Rattle.zr_jobs.specs.declared.job.JobSet.{JobSet}
+use Rattle.zr_jobset.specs.Sets.{Jobs}
 use Rattle.zr_jobfile.specs.declared.TheConstants.{FILE_LIMIT}
 use Rattle.zr_jobfile.specs.JobFile.{ReadsJobs}
 use Rattle.zr_pipe.specs.Ends.{WroteFront}
@@ -85,7 +85,7 @@ pub record Promises (c : Given) : Type 0 where
   -- completeness: with an accepted file and no fault the status is 0, 4 or 6, of which `ran` says that all that was due was
   -- done, but for garbled listings; or memory was wanting
   pub complete :
-      (file whole : List ℕ) (jobs : JobSet) → HasFile c file whole → ReadsJobs (front whole) (Ok jobs) → IsSound c →
+      (file whole : List ℕ) (jobs : Jobs) → HasFile c file whole → ReadsJobs (front whole) (Ok jobs) → IsSound c →
       Contains (0 ∷ 4 ∷ 6 ∷ 9 ∷ []) c.status
   -- one line is all that is printed, and a front of it at most where the output or memory failed: all of it or nothing where
   -- the output did not; that of a named file is part of `ran`

@@ -2,7 +2,7 @@ use Rattle.std.specs.Prelude.{⊤, ◌≡◌, ◌||◌, ℕ, Bool, true, false, 
 use Rattle.zr_names.specs.declared.outcome.Outcome.{Outcome}
 use Rattle.zr_names.specs.declared.outcome.Outcome.TheVariants as outcome
 use Rattle.zr_names.specs.declared.unit.Unit.{Unit}
-use Rattle.zr_jobs.specs.declared.job.JobSet.{JobSet}
+use Rattle.zr_jobset.specs.Sets.{Jobs}
 use Rattle.zr_permit.specs.Honest.{IsHonest}
 use Rattle.zr_permit.specs.Result.{is_child_fault}
 use Rattle.zr_permit.specs.Transcript.{Transcript}
@@ -12,13 +12,13 @@ use Rattle.zr_top.specs.Attempts.{Attempt}
 use Rattle.zr_top.specs.Status.{is_conflict_or_too_long, is_garbled, some_ended}
 
 -- a run that was begun destroyed honestly
-abbrev pub Destroys : JobSet → Unit → Option (ℕ × Transcript) → Type 0
+abbrev pub Destroys : Jobs → Unit → Option (ℕ × Transcript) → Type 0
 Destroys jobs unit None = ⊤
 Destroys jobs unit (Some begun) = IsHonest jobs unit begun.1
 
 -- each snapshot that was given for destruction stood in a listing of its dataset that the same unit had
 -- taken before, with no holds and kept by no rule of its job
-abbrev pub AllHonest : JobSet → List Attempt → Type 0
+abbrev pub AllHonest : Jobs → List Attempt → Type 0
 AllHonest jobs attempts = All (λ (a : Attempt). Destroys jobs a.unit a.begun) attempts
 
 -- the unit has finished: it was begun, and is no failed child, garbled listing or want of memory

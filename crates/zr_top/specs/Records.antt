@@ -6,7 +6,7 @@ use Rattle.zr_base.specs.Count.{Rose}
 use Rattle.zr_world.specs.Answering.{appended}
 use Rattle.zr_exec.specs.declared.spawn.Line.{Line}
 use Rattle.zr_exec.specs.Entries.{entries_of}
-use Rattle.zr_jobs.specs.declared.job.JobSet.{JobSet}
+use Rattle.zr_jobset.specs.Sets.{Jobs}
 use Rattle.zr_jobfile.specs.declared.TheConstants.{FILE_LIMIT}
 use Rattle.zr_jobfile.specs.declared.JobFault.{JobFault}
 use Rattle.zr_jobfile.specs.declared.JobFault.TheVariants as fault
@@ -56,22 +56,22 @@ IsNext (Some []) moment = moment ≡ None
 IsNext (Some (next ∷ later)) moment = moment ≡ Some next
 
 -- all that was due at a clock's next moment was attempted with a runner
-pub record RanNext (jobs : JobSet) (moments : Option (List ℕ)) (before now : Told) (totals : Totals) : Type 0 where
+pub record RanNext (jobs : Jobs) (moments : Option (List ℕ)) (before now : Told) (totals : Totals) : Type 0 where
   pub moment : Option ℕ
   pub next : IsNext moments moment
   pub ran : RanDue jobs moment (entries_of zfs before) (entries_of zfs now) totals
 
 -- `once` was called with a runner, or for want of memory nothing was begun
-abbrev pub RanOnce : JobSet → Option (List ℕ) → Told → Told → Result Totals NoMemory → Type 0
+abbrev pub RanOnce : Jobs → Option (List ℕ) → Told → Told → Result Totals NoMemory → Type 0
 RanOnce jobs moments before now (Err fault) = now ≡ before
 RanOnce jobs moments before now (Ok totals) = RanNext jobs moments before now totals
 
 -- the same, of the first of some runners
-abbrev pub FirstNext : JobSet → Option (List ℕ) → List Told → List Told → Totals → Type 0
+abbrev pub FirstNext : Jobs → Option (List ℕ) → List Told → List Told → Totals → Type 0
 FirstNext jobs moments (before ∷ others) (now ∷ left) totals = RanNext jobs moments before now totals
 FirstNext jobs moments before now totals = ⊥
 
-abbrev pub FirstRan : JobSet → Option (List ℕ) → List Told → List Told → Result Totals NoMemory → Type 0
+abbrev pub FirstRan : Jobs → Option (List ℕ) → List Told → List Told → Result Totals NoMemory → Type 0
 FirstRan jobs moments before now (Err fault) = now ≡ before
 FirstRan jobs moments before now (Ok totals) = FirstNext jobs moments before now totals
 
@@ -116,7 +116,7 @@ WroteLineOrNothing before now line =
 
 -- all that is due for these jobs was attempted with the first runner, and the totals were printed: one list of attempts
 -- for all that is said
-pub record RanJobs (jobs : JobSet) (moments : Option (List ℕ)) (before now : View) (given : Status) : Type 0 where
+pub record RanJobs (jobs : Jobs) (moments : Option (List ℕ)) (before now : View) (given : Status) : Type 0 where
   pub moment : Option ℕ
   pub next : IsNext moments moment
   pub attempts : List Attempt
@@ -168,7 +168,7 @@ IsFrontOf content bytes = (whole : List ℕ) → content ≡ Some whole → byte
 
 -- the jobs of these bytes were run
 pub record RanBytes (bytes : List ℕ) (moments : Option (List ℕ)) (before now : View) (given : Status) : Type 0 where
-  pub jobs : JobSet
+  pub jobs : Jobs
   pub of_file : ReadsJobs bytes (Ok jobs)
   pub ran : RanJobs jobs moments before now given
 

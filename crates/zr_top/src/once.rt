@@ -1,15 +1,15 @@
 //! One round: the scan of each job, and then what the scans found.
 
-ghost use Rattle.std.specs.Prelude.{◌≡◌, ◌≤◌, ◌<◌, ◌^◌, All, IfErr, IfOk, List, length};
+ghost use Rattle.std.specs.Prelude.{◌≡◌, ◌≤◌, ◌<◌, All, IfErr, IfOk, List, true};
 ghost use Rattle.zr_base.specs.Count.{Rose};
-ghost use Rattle.zr_jobs.specs.Jobs.{all_rules};
+ghost use Rattle.zr_jobset.specs.Units.{all_rules, is_scanned};
 ghost use Rattle.zr_top.specs.Attempts.{Attempted, no_totals};
-ghost use Rattle.zr_top.specs.Due.{FaultsRose, joined, RanDue, ScansRan};
+ghost use Rattle.zr_top.specs.Due.{due_jobs, FaultsRose, joined, RanDue, ScansRan};
 ghost use Rattle.zr_top.specs.Units.{IsDueUnit};
 
 use crate::running::{run_scan, run_unit};
 use std::alloc::{AllocError, Global};
-use zr_jobs::JobSet;
+use zr_jobset::JobSet;
 use zr_names::{Moment, NoMemory, Outcome, Rows, Totals, Unit};
 use zr_rules::Rules;
 use zr_world::Zfs;
@@ -49,18 +49,32 @@ impl Tally {
     }
 }
 
-/// Runs the scan of each job in the order of the file, and gives the units that each found. The room for
-/// them is made before the first scan.
+/// The numbers of the jobs that are scanned.
+fn due_jobs(alloc: Global, jobs: &JobSet) -> Result<Vec<u32>, AllocError>
+    ensures { IfOk result (λ numbers. numbers.items ≡ due_jobs jobs.now) }
+{
+    let mut numbers = Vec::new(alloc);
+    for number in 0..jobs.jobs().len() as u32 {
+        if jobs.is_scanned(number) {
+            numbers.push(number)?;
+        }
+    }
+    Ok(numbers)
+}
+
+/// Runs the scans of these jobs in their order, and gives the units that each found. The room for them is made before the
+/// first scan.
 fn scan_all<Z: Zfs>(
     alloc: Global,
     jobs: &JobSet,
+    numbers: &[u32],
     moment: Moment,
     tally: &mut Tally,
     runner: &mut Z,
 ) -> Result<Vec<Rows<Unit>>, AllocError>
-    requires { length jobs.now.jobs < 2 ^ 32 }
+    requires scanned { All (λ number. is_scanned jobs.now number ≡ true) numbers.now }
     ensures units { IfOk result (λ found. All (All (IsDueUnit jobs.now)) found.items) }
-    ensures ran { IfOk result (λ found. ScansRan jobs.now moment (length jobs.now.jobs)
+    ensures ran { IfOk result (λ found. ScansRan jobs.now moment numbers.now
         (Z.history runner.old) (Z.history runner.new) tally.old.totals tally.new.totals
         found.items) }
     ensures unbegun { IfErr result (λ fault. runner.new ≡ runner.old) }
@@ -68,9 +82,9 @@ fn scan_all<Z: Zfs>(
     ensures rose { FaultsRose tally.old.totals tally.new.totals (Z.faults runner.old)
         (Z.faults runner.new) }
 {
-    let mut found = Vec::with_capacity(alloc, jobs.jobs.len())?;
-    for job in 0..jobs.jobs.len() as u32 {
-        let (outcome, units) = run_scan(alloc, jobs, job, moment, tally.next_run(), runner);
+    let mut found = Vec::with_capacity(alloc, numbers.len())?;
+    for number in numbers {
+        let (outcome, units) = run_scan(alloc, jobs, *number, moment, tally.next_run(), runner);
         tally.count(&outcome);
         found.push_reserved(Rows::from_vec(units));
     }
@@ -125,7 +139,7 @@ fn run_all<Z: Zfs>(
     }
 }
 
-/// Runs all that is due at one moment: the scan of each job, and then the units that the scans found. No
+/// Runs all that is due at one moment: the scan of each job but sinks, and then the units that the scans found. No
 /// key of such a unit comes twice, so none is coalesced. With no moment nothing is due. Where there is no
 /// memory to begin, nothing is run. The rules are those of each job, compiled.
 pub fn once<Z: Zfs>(
@@ -135,7 +149,6 @@ pub fn once<Z: Zfs>(
     moment: Option<Moment>,
     runner: &mut Z,
 ) -> Result<Totals, NoMemory>
-    requires few { length jobs.now.jobs < 2 ^ 32 }
     requires rules { rules.old ≡ all_rules jobs.now }
     ensures ran { IfOk result
         (λ totals. RanDue jobs.now moment (Z.history runner.old) (Z.history runner.new) totals) }
@@ -148,7 +161,10 @@ pub fn once<Z: Zfs>(
     let Some(moment) = moment else {
         return Ok(tally.totals);
     };
-    let Ok(found) = scan_all(alloc, jobs, moment, &mut tally, runner) else {
+    let Ok(numbers) = due_jobs(alloc, jobs) else {
+        return Err(NoMemory);
+    };
+    let Ok(found) = scan_all(alloc, jobs, numbers.as_slice(), moment, &mut tally, runner) else {
         return Err(NoMemory);
     };
     run_all(alloc, jobs, rules, found, &mut tally, runner);

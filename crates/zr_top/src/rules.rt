@@ -1,10 +1,10 @@
 //! The rules of each job, compiled before anything is run.
 
 ghost use Rattle.std.specs.Prelude.{◌≡◌, All, IfOk};
-ghost use Rattle.zr_jobs.specs.Jobs.{ArePlain, IsPlain, all_rules};
+ghost use Rattle.zr_jobset.specs.Units.{ArePlain, IsPlain, all_rules};
 
 use std::alloc::Global;
-use zr_jobs::JobSet;
+use zr_jobset::JobSet;
 use zr_names::NoMemory;
 use zr_rules::{RegexPatterns, RuleFault, RuleSpec, Rules, compile};
 
@@ -31,7 +31,7 @@ pub fn compile_all(alloc: Global, jobs: &JobSet) -> Result<Vec<Rules>, NoMemory>
 {
     let mut patterns = RegexPatterns::new(alloc);
     let mut rules = Vec::new(alloc);
-    for job in jobs.jobs.as_slice() {
+    for job in jobs.jobs() {
         rules.push(compile_job(alloc, &mut patterns, job.keep_source.as_slice())?)?;
     }
     Ok(rules)

@@ -3,7 +3,7 @@
 ghost use Rattle.std.specs.Prelude.{◌≡◌, ◌≤◌, ◌<◌, All, true, length};
 ghost use Rattle.zr_base.specs.Count.{Rose};
 ghost use Rattle.zr_names.specs.declared.unit.Work.TheVariants as work;
-ghost use Rattle.zr_jobs.specs.Jobs.{IsOfFile, all_rules, job_at, rules_of};
+ghost use Rattle.zr_jobset.specs.Units.{IsOfFile, all_rules, is_scanned, rules_of};
 ghost use Rattle.zr_permit.specs.Result.{is_child_fault};
 ghost use Rattle.zr_permit.specs.Runs.{Ran};
 ghost use Rattle.zr_permit.specs.Sight.{HasEnded, HasJustBegun, sight};
@@ -11,7 +11,7 @@ ghost use Rattle.zr_top.specs.Due.{scan_of, ScanRan};
 ghost use Rattle.zr_top.specs.Units.{IsDueUnit, IsDueWork};
 
 use std::alloc::Global;
-use zr_jobs::JobSet;
+use zr_jobset::JobSet;
 use zr_names::{Moment, Outcome, Unit, Work};
 use zr_permit::{Guarded, Unbegun};
 use zr_prune::prune;
@@ -29,7 +29,7 @@ pub fn run_scan<Z: Zfs>(
     run: u64,
     runner: &mut Z,
 ) -> (Outcome, Vec<Unit>)
-    requires { job < length jobs.now.jobs }
+    requires { is_scanned jobs.now job ≡ true }
     ensures ran { ScanRan jobs.now (scan_of moment job) run (Z.history runner.old)
         (Z.history runner.new)
         result.0 result.1.items }
@@ -64,7 +64,7 @@ pub fn run_scan<Z: Zfs>(
 /// Does the work of a unit that has just begun.
 fn work<Z: Zfs>(alloc: Global, unit: &mut Guarded<'_, Z>, rules: &mut Rules) -> Outcome
     requires rules { rules.old
-        ≡ rules_of (job_at (sight Z.Zfs unit.old).jobs (sight Z.Zfs unit.old).unit.job) }
+        ≡ rules_of (sight Z.Zfs unit.old).jobs (sight Z.Zfs unit.old).unit.job }
     requires begun { HasJustBegun (sight Z.Zfs unit.old) }
     requires of_file { IsOfFile (sight Z.Zfs unit.old).jobs (sight Z.Zfs unit.old).unit }
     requires kind { IsDueWork (sight Z.Zfs unit.old).unit.work }

@@ -1,9 +1,9 @@
 //! The call that the program makes: words in, a line and a status out.
 
-ghost use Rattle.std.specs.Prelude.{◌⊎◌, drop, ◌≡◌, ◌≢◌, ◌≤◌, ◌<◌, ◌+◌, ◌^◌, ℕ, IfOk, List, Some, None, [], ◌∷◌, ◌++◌, codes, length, map, take, true, vec_len};
+ghost use Rattle.std.specs.Prelude.{◌⊎◌, drop, ◌≡◌, ◌≢◌, ◌≤◌, ◌<◌, ◌+◌, ℕ, IfOk, List, Some, None, [], ◌∷◌, ◌++◌, codes, length, map, take, true, vec_len};
 ghost use Rattle.std.specs.String.{string_bytes};
 ghost use Rattle.zr_jobfile.specs.declared.TheConstants.{FILE_LIMIT};
-ghost use Rattle.zr_jobs.specs.Jobs.{ArePlain};
+ghost use Rattle.zr_jobset.specs.Units.{ArePlain};
 ghost use Rattle.std.specs.Io.KnownBytes.{append_known};
 ghost use Rattle.zr_pipe.specs.Faults.{Rose};
 ghost use Rattle.zr_top.specs.Calls.{given, edges, Promises};
@@ -26,7 +26,7 @@ use std::sync::Wait;
 use std::thread::Threads;
 use zr_exec::{CliZfs, Spawn};
 use zr_jobfile::{FILE_LIMIT, read_jobs};
-use zr_jobs::JobSet;
+use zr_jobset::JobSet;
 use zr_names::{NoMemory, Totals};
 use zr_pipe::Sink;
 
@@ -37,7 +37,6 @@ fn once_with<R: Spawn, C: Clock + Drop>(
     child: R,
     mut clock: C,
 ) -> (Result<Totals, NoMemory>, R)
-    requires few { length jobs.now.jobs < 2 ^ 32 }
     requires plain { ArePlain jobs.now }
     ensures ran { RanOnce jobs.now (C.moments clock) (R.history child) (R.history result.1)
         result.0 }
@@ -66,7 +65,6 @@ fn once_with_first<R: Spawn + Drop, C: Clock + Drop>(
     clock: C,
 ) -> Result<Totals, NoMemory>
     requires some { 0 < vec_len children.old }
-    requires few { length jobs.now.jobs < 2 ^ 32 }
     requires plain { ArePlain jobs.now }
     ensures len { vec_len children.new ≡ vec_len children.old }
     ensures first { FirstRan jobs.now (C.moments clock) (map (λ r. R.history r) children.old.items)
@@ -93,7 +91,6 @@ fn run_jobs<R: Spawn + Drop, C: Clock + Drop, S: Sink>(
     out: &mut S,
 ) -> Status
     requires some { 0 < vec_len children.old }
-    requires few { length jobs.now.jobs < 2 ^ 32 }
     requires plain { ArePlain jobs.now }
     ensures len { vec_len children.new ≡ vec_len children.old }
     ensures of_run { is_of_run result ≡ true }

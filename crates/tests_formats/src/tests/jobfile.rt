@@ -5,7 +5,8 @@ use std::alloc::Global;
 use tests_lines::{Unread, ask_of, bytes_of, column, is_wanted, shown, text, told};
 use zr_filter::{Filter, FilterEntry};
 use zr_jobfile::{JobFault, read_jobs};
-use zr_jobs::{Destination, Job, JobSet};
+use zr_jobset::{Job, JobKind, JobSet};
+use zr_names::JobName;
 use zr_rules::RuleSpec;
 
 // Each part as a person writes it, and the snap job once more in one line.
@@ -52,12 +53,12 @@ listener_name = "l"
 
 const CASES: &str = r#"
 # a file as a person writes it, inline tables and the ends of each range
-a snap job with a subtree | file => job s; takes tank<; keeps last 2
-the same tree in one line | snap => job s; takes tank<; keeps last 2
-a filesystem alone | snap | "tank<" | tank => job s; takes tank; keeps last 2
-a path with a blank, and the least count | snap | tank<" = true }, snapshotting = { type = "manual" }, pruning = { keep = [{ type = "last_n", count = 2 | tank/a b<" = true }, snapshotting = { type = "manual" }, pruning = { keep = [{ type = "last_n", count = 1 => job s; takes tank/a b<; keeps last 1
-every filesystem, and the greatest count | snap | tank<" = true }, snapshotting = { type = "manual" }, pruning = { keep = [{ type = "last_n", count = 2 | <" = true }, snapshotting = { type = "manual" }, pruning = { keep = [{ type = "last_n", count = 4294967295 => job s; takes <; keeps last 4294967295
-a name of 64 bytes | snap | "s" | "\*a64;" => job aaaaaaaaaaaaaaaaaaaaaaaaaaaaaaaaaaaaaaaaaaaaaaaaaaaaaaaaaaaaaaaa; takes tank<; keeps last 2
+a snap job with a subtree | file => snap s; takes tank<; keeps last 2
+the same tree in one line | snap => snap s; takes tank<; keeps last 2
+a filesystem alone | snap | "tank<" | tank => snap s; takes tank; keeps last 2
+a path with a blank, and the least count | snap | tank<" = true }, snapshotting = { type = "manual" }, pruning = { keep = [{ type = "last_n", count = 2 | tank/a b<" = true }, snapshotting = { type = "manual" }, pruning = { keep = [{ type = "last_n", count = 1 => snap s; takes tank/a b<; keeps last 1
+every filesystem, and the greatest count | snap | tank<" = true }, snapshotting = { type = "manual" }, pruning = { keep = [{ type = "last_n", count = 2 | <" = true }, snapshotting = { type = "manual" }, pruning = { keep = [{ type = "last_n", count = 4294967295 => snap s; takes <; keeps last 4294967295
+a name of 64 bytes | snap | "s" | "\*a64;" => snap aaaaaaaaaaaaaaaaaaaaaaaaaaaaaaaaaaaaaaaaaaaaaaaaaaaaaaaaaaaaaaaa; takes tank<; keeps last 2
 # no TOML
 a header that does not end | text | [[jobs => no TOML
 a key that stands twice | text | jobs = []\njobs = [] => no TOML
@@ -99,21 +100,21 @@ a fraction in place of the count | snap | count = 2 | count = 2.0 => not built
 # the longest file
 an empty document of the greatest length | text | \* 1048576; => not built
 one byte more | text | \* 1048577; => too many bytes
-# a push job and its sink are one job
-a push job and its sink | push sink => job p; takes tank/a; to b as c
+# a push job and its sink
+a push job and its sink | push sink => push p; takes tank/a; at l as c / sink k; root b; at l
 # names are free
-a name with a blank | push sink | name = "p" | name = "job 1" => job job 1; takes tank/a; to b as c
-a name with a dot of the sink job | push sink | name = "k" | name = "sink.k" => job p; takes tank/a; to b as c
-one name for the job and the listener | push sink | name = "p" | name = "l" => job l; takes tank/a; to b as c
-a listener with a colon | push sink | "l" | "port:8" => job p; takes tank/a; to b as c
-an identity of three dots | push sink | "c" | "..." => job p; takes tank/a; to b as ...
-a filesystem that is a pool | push sink | "tank/a" | tank => job p; takes tank; to b as c
-a filesystem with a blank | push sink | "tank/a" | "tank/a b/c" => job p; takes tank/a b/c; to b as c
-a root of two components | push sink | "b" | "backup/sinks" => job p; takes tank/a; to backup/sinks as c
-a root beside the filesystem | push sink | "b" | "tank/b" => job p; takes tank/a; to tank/b as c
-a root below the filesystem | push sink | "b" | "tank/a/b" => job p; takes tank/a; to tank/a/b as c
-a root with a name that the filesystem's begins with | push sink | "b" | "tan" => job p; takes tank/a; to tan as c
-another order of keys, and a comment | push sink | type = "sink"\nroot_fs = "b"\n | root_fs = "b" # there already\ntype = "sink"\n => job p; takes tank/a; to b as c
+a name with a blank | push sink | name = "p" | name = "job 1" => push job 1; takes tank/a; at l as c / sink k; root b; at l
+a name with a dot of the sink job | push sink | name = "k" | name = "sink.k" => push p; takes tank/a; at l as c / sink sink.k; root b; at l
+one name for the job and the listener | push sink | name = "p" | name = "l" => push l; takes tank/a; at l as c / sink k; root b; at l
+a listener with a colon | push sink | "l" | "port:8" => push p; takes tank/a; at port:8 as c / sink k; root b; at port:8
+an identity of three dots | push sink | "c" | "..." => push p; takes tank/a; at l as ... / sink k; root b; at l
+a filesystem that is a pool | push sink | "tank/a" | tank => push p; takes tank; at l as c / sink k; root b; at l
+a filesystem with a blank | push sink | "tank/a" | "tank/a b/c" => push p; takes tank/a b/c; at l as c / sink k; root b; at l
+a root of two components | push sink | "b" | "backup/sinks" => push p; takes tank/a; at l as c / sink k; root backup/sinks; at l
+a root beside the filesystem | push sink | "b" | "tank/b" => push p; takes tank/a; at l as c / sink k; root tank/b; at l
+a root below the filesystem | push sink | "b" | "tank/a/b" => push p; takes tank/a; at l as c / sink k; root tank/a/b; at l
+a root with a name that the filesystem's begins with | push sink | "b" | "tan" => push p; takes tank/a; at l as c / sink k; root tan; at l
+another order of keys, and a comment | push sink | type = "sink"\nroot_fs = "b"\n | root_fs = "b" # there already\ntype = "sink"\n => push p; takes tank/a; at l as c / sink k; root b; at l
 # each single fault
 two jobs of one name | push sink | name = "k" | name = "p" => not built
 a listener that nobody serves | push sink | listener_name = "l"\nclient | listener_name = "m"\nclient => not built
@@ -245,12 +246,28 @@ fn push_rule(out: &mut String, rule: &RuleSpec) -> Result<(), Unread> {
     Ok(())
 }
 
-fn push_place(out: &mut String, place: &Destination) -> Result<(), Unread> {
-    write!(out, "; to {}", shown(place.root().as_bytes()))?;
-    if let Destination::Push { identity, .. } = place {
+/// Where a job has something at another end: a root, a listener, an identity.
+fn push_ends(out: &mut String, job: &Job) -> Result<(), Unread> {
+    if let Some(root) = &job.root {
+        write!(out, "; root {}", shown(root.as_bytes()))?;
+    }
+    if let Some(listener) = &job.listener {
+        write!(out, "; at {}", shown(listener.as_bytes()))?;
+    }
+    if let Some(identity) = &job.identity {
         write!(out, " as {}", shown(identity.as_bytes()))?;
     }
     Ok(())
+}
+
+fn kind_text(kind: JobKind) -> &'static str {
+    match kind {
+        JobKind::Push => "push",
+        JobKind::Pull => "pull",
+        JobKind::Sink => "sink",
+        JobKind::Source => "source",
+        JobKind::Snap => "snap",
+    }
 }
 
 fn push_entries(out: &mut String, filter: &Filter) -> Result<(), Unread> {
@@ -267,20 +284,18 @@ fn push_rules(out: &mut String, rules: &[RuleSpec]) -> Result<(), Unread> {
     Ok(())
 }
 
-fn push_job(out: &mut String, job: &Job) -> Result<(), Unread> {
-    write!(out, "job {}", shown(job.name.as_bytes()))?;
+fn push_job(out: &mut String, name: &JobName, job: &Job) -> Result<(), Unread> {
+    write!(out, "{} {}", kind_text(job.kind), shown(name.as_bytes()))?;
     push_entries(out, &job.filter)?;
     push_rules(out, job.keep_source.as_slice())?;
-    match &job.destination {
-        Some(place) => push_place(out, place),
-        None => Ok(()),
-    }
+    push_ends(out, job)
 }
 
 fn set_text(alloc: Global, set: &JobSet) -> Result<String, Unread> {
     let mut out = String::new(alloc);
-    for job in set.jobs.as_slice() {
-        push_job(&mut out, job)?;
+    for (name, job) in set.names().iter().zip(set.jobs().iter()) {
+        out.push_str(if out.is_empty() { "" } else { " / " })?;
+        push_job(&mut out, name, job)?;
     }
     Ok(out)
 }

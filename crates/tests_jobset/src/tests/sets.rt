@@ -12,7 +12,9 @@ use zr_jobs::{Identity, read_identity};
 use zr_jobset::{
     CheckFault, Job, JobKind, JobSet, Policy, TargetFault, are_jobs, check, filter_of, target_of,
 };
-use zr_names::{Initial, JobName, Path, Protection, Rows, read_path, read_prefix};
+use zr_names::{
+    Initial, JobName, Moment, Path, Protection, Rows, Same, Unit, Work, read_path, read_prefix,
+};
 use zr_rules::RuleSpec;
 use zr_schedule::When;
 
@@ -70,6 +72,20 @@ p push listener=l identity=c filter=tank< ; k sink listener=l root=b | target 0 
 p push listener=l identity=c filter=tank< ; k sink listener=l root=b | target 0 \*a144; => too long: 148
 p push listener=l identity=c filter=tank< ; k sink listener=l root=b | target 0 \*a143; => b/c/aaaaaaaaaaaaaaaaaaaaaaaaaaaaaaaaaaaaaaaaaaaaaaaaaaaaaaaaaaaaaaaaaaaaaaaaaaaaaaaaaaaaaaaaaaaaaaaaaaaaaaaaaaaaaaaaaaaaaaaaaaaaaaaaaaaaaaaaaaaaaaa
 q pull listener=l identity=c root=b ; s source listener=l filter=tank< | target 0 \*a146; => too long: 148
+# the units of a job: a sink is never scanned, and a source replicates nothing by itself
+p push listener=l identity=c filter=tank< source=last ; k sink listener=l root=b | units 0 tank/a => scan replicate prune
+p push listener=l identity=c filter=tank< ; k sink listener=l root=b | units 0 tank/a => scan replicate
+p push listener=l identity=c filter=tank< ; k sink listener=l root=b | units 0 pool => scan
+p push listener=l identity=c filter=tank< ; k sink listener=l root=b | units 1 tank/a => none
+p push listener=l identity=c filter=tank< ; k sink listener=l root=b | units 2 tank/a => none
+q pull listener=l identity=c root=b source=last ; s source listener=l filter=tank< | units 0 tank/a => scan replicate prune
+q pull listener=l identity=c root=b ; s source listener=l filter=tank< | units 1 tank/a => scan
+n snap filter=tank< source=last | units 0 tank/a => scan prune
+# nor has a job units on a path or a target that is too long
+p push listener=l identity=c filter=tank< ; k sink listener=l root=b | units 0 tank/\*a138; => scan replicate
+p push listener=l identity=c filter=tank< ; k sink listener=l root=b | units 0 tank/\*a139; => scan
+n snap filter=tank< source=last | units 0 tank/\*a142; => scan prune
+n snap filter=tank< source=last | units 0 tank/\*a143; => scan
 # what a job file does not give is no set
 n snap filter=tank< root=b => not whole
 k sink listener=l => not whole
@@ -249,6 +265,36 @@ fn filter_text(alloc: Global, set: &JobSet, job: u32, path: &Path) -> Result<Str
     answer(alloc, matches(filter_of(set, job), path))
 }
 
+fn has(set: &JobSet, job: u32, work: Work) -> Result<bool, Unread> {
+    let moment = Moment::new(0).ok_or(Unread)?;
+    Ok(set.has_unit(&Unit { job, moment, work }))
+}
+
+fn push_word(out: &mut String, there: bool, word: &str) -> Result<(), Unread> {
+    if there {
+        out.push_str(if out.is_empty() { "" } else { " " })?;
+        out.push_str(word)?;
+    }
+    Ok(())
+}
+
+fn units_text(alloc: Global, set: &JobSet, job: u32, path: &Path) -> Result<String, Unread> {
+    let mut out = String::new(alloc);
+    push_word(&mut out, has(set, job, Work::Scan)?, "scan")?;
+    push_word(
+        &mut out,
+        has(set, job, Work::Replicate(path.same()?))?,
+        "replicate",
+    )?;
+    push_word(
+        &mut out,
+        has(set, job, Work::PruneSource(path.same()?))?,
+        "prune",
+    )?;
+    out.push_str(if out.is_empty() { "none" } else { "" })?;
+    Ok(out)
+}
+
 fn asked(alloc: Global, set: &JobSet, question: &str) -> Result<String, Unread> {
     let Some((word, rest)) = question.split_once(' ') else {
         return text(alloc, "accepted");
@@ -259,6 +305,7 @@ fn asked(alloc: Global, set: &JobSet, question: &str) -> Result<String, Unread> 
     match word {
         "target" => target_text(alloc, set, job, &source),
         "filter" => filter_text(alloc, set, job, &source),
+        "units" => units_text(alloc, set, job, &source),
         _ => Err(Unread),
     }
 }

@@ -53,26 +53,43 @@ due=2 done=2 coalesced=0 taken=0 fresh=0 steps=0 uptodate=0 conflicts=0 destroye
 status 0
 =
 
-a_destroy_that_fails_counts_as_busy
-now 1000 txg 100 guid 100;tank @a:11:11:100 @b:12:12:200 @c:13:13:300 @d:14:14:400;
-once f of snap
-  zfs list -H -p -t filesystem,volume -o name,zrepl:placeholder,receive_resume_token
-  zfs list -H -p -d 1 -t snapshot,bookmark -s createtxg -o name,guid,createtxg,creation,userrefs tank
-  none zfs destroy tank@a
-  zfs destroy tank@b
-due=2 done=2 coalesced=0 taken=0 fresh=0 steps=0 uptodate=0 conflicts=0 destroyed=1 busy=1 placeholders=0 toolong=0 faults=0 garbled=0 nomemory=0
-status 0
-=;tank @a:11:11:100 @c:13:13:300 @d:14:14:400;
-
-the_rest_is_destroyed_behind_a_destroy_that_fails
+those_that_go_are_named_in_the_order_of_the_listing
 now 1000 txg 100 guid 100;tank @a:11:11:100 @b:12:12:200 @c:13:13:300 @d:14:14:400 @e:15:15:500;
 once f of snap
   zfs list -H -p -t filesystem,volume -o name,zrepl:placeholder,receive_resume_token
   zfs list -H -p -d 1 -t snapshot,bookmark -s createtxg -o name,guid,createtxg,creation,userrefs tank
-  zfs destroy tank@a
-  none zfs destroy tank@b
-  zfs destroy tank@c
-due=2 done=2 coalesced=0 taken=0 fresh=0 steps=0 uptodate=0 conflicts=0 destroyed=2 busy=1 placeholders=0 toolong=0 faults=0 garbled=0 nomemory=0
+  zfs destroy tank@a,b,c
+due=2 done=2 coalesced=0 taken=0 fresh=0 steps=0 uptodate=0 conflicts=0 destroyed=3 busy=0 placeholders=0 toolong=0 faults=0 garbled=0 nomemory=0
+status 0
+=;tank @d:14:14:400 @e:15:15:500;
+
+a_held_snapshot_is_not_named_among_those_that_go
+now 1000 txg 100 guid 100;tank @a:11:11:100 @b:12:12:200[tag] @c:13:13:300 @d:14:14:400 @e:15:15:500;
+once f of snap
+  zfs list -H -p -t filesystem,volume -o name,zrepl:placeholder,receive_resume_token
+  zfs list -H -p -d 1 -t snapshot,bookmark -s createtxg -o name,guid,createtxg,creation,userrefs tank
+  zfs destroy tank@a,c
+due=2 done=2 coalesced=0 taken=0 fresh=0 steps=0 uptodate=0 conflicts=0 destroyed=2 busy=0 placeholders=0 toolong=0 faults=0 garbled=0 nomemory=0
+status 0
+=;tank @b:12:12:200[tag] @d:14:14:400 @e:15:15:500;
+
+each_name_of_a_destroy_that_fails_counts_as_busy
+now 1000 txg 100 guid 100;tank @a:11:11:100 @b:12:12:200 @c:13:13:300 @d:14:14:400;
+once f of snap
+  zfs list -H -p -t filesystem,volume -o name,zrepl:placeholder,receive_resume_token
+  zfs list -H -p -d 1 -t snapshot,bookmark -s createtxg -o name,guid,createtxg,creation,userrefs tank
+  none zfs destroy tank@a,b
+due=2 done=2 coalesced=0 taken=0 fresh=0 steps=0 uptodate=0 conflicts=0 destroyed=0 busy=2 placeholders=0 toolong=0 faults=0 garbled=0 nomemory=0
+status 0
+=
+
+a_destroy_that_comes_in_part
+now 1000 txg 100 guid 100;tank @a:11:11:100 @b:12:12:200 @c:13:13:300 @d:14:14:400 @e:15:15:500;
+once f of snap
+  zfs list -H -p -t filesystem,volume -o name,zrepl:placeholder,receive_resume_token
+  zfs list -H -p -d 1 -t snapshot,bookmark -s createtxg -o name,guid,createtxg,creation,userrefs tank
+  chosen 5 zfs destroy tank@a,b,c
+due=2 done=2 coalesced=0 taken=0 fresh=0 steps=0 uptodate=0 conflicts=0 destroyed=0 busy=3 placeholders=0 toolong=0 faults=0 garbled=0 nomemory=0
 status 0
 =;tank @b:12:12:200 @d:14:14:400 @e:15:15:500;
 

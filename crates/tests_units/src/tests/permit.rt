@@ -3,8 +3,7 @@
 use super::is;
 use std::alloc::{AllocError, Global};
 use tests_pools::{Asked, before, number, path, rows_of, shown, written};
-use zr_base::Rows;
-use zr_jobs::JobSet;
+use zr_jobset::{JobSet, are_jobs, check};
 use zr_names::{SnapName, read_job};
 use zr_permit::doomed;
 use zr_rules::{RegexPatterns, RuleSpec, Rules, compile, have_grids};
@@ -133,11 +132,20 @@ impl Asked for Jobs {
     }
 }
 
+fn no_jobs(alloc: Global) -> Option<JobSet> {
+    let jobs = Vec::new(alloc);
+    if !are_jobs(&[], jobs.as_slice()) {
+        return None;
+    }
+    check(alloc, &[], jobs).ok()
+}
+
+fn lengths(alloc: Global) -> Option<String> {
+    let jobs = no_jobs(alloc)?;
+    written(alloc, LENGTHS, &mut Jobs { jobs })
+}
+
 #[test]
 fn paths_that_are_too_long(rt: HostRuntime) {
-    let alloc = rt.alloc();
-    let jobs = JobSet {
-        jobs: Rows::new(alloc),
-    };
-    is(&rt, LENGTHS, written(alloc, LENGTHS, &mut Jobs { jobs }));
+    is(&rt, LENGTHS, lengths(rt.alloc()));
 }

@@ -5,11 +5,13 @@ use std::alloc::{AllocError, Global};
 use tests_pools::{Asked, before, extent_of, job, number, path, pools_of, written};
 use zr_base::Rows;
 use zr_filter::{Filter, read_pattern};
-use zr_jobs::{Destination, Job, JobSet};
+use zr_jobs::read_identity;
+use zr_jobset::{Job, JobKind, JobSet, Policy, are_jobs, check};
 use zr_model::is_well_formed;
-use zr_names::{Moment, Outcome, Unit, Work};
+use zr_names::{Initial, Moment, Outcome, Protection, Unit, Work};
 use zr_permit::Guarded;
 use zr_replicate::replicate;
+use zr_schedule::When;
 use zr_world::{MemZfs, PlannedFailure, Pools};
 
 /// Pools; then the command that fails, if any, by its number, with how much of it comes; and how the unit ends. The
@@ -52,24 +54,89 @@ a_target_that_was_never_settled_is_conflict_20
 now 1000 txg 100 guid 100;p;p/a @a:11:1:1011;q;q/p;q/p/a @a:11:1:1011;
   well => conflict 20";
 
-/// A job with one dataset, which it pulls below a root.
-fn job_of(alloc: Global) -> Option<Job> {
-    let mut entries = Rows::new(alloc);
-    entries.push(read_pattern(alloc, b"p/a", true).ok()?).ok()?;
-    Some(Job {
-        name: job(alloc, "j")?,
-        filter: Filter { entries },
-        keep_source: Rows::new(alloc),
-        destination: Some(Destination::Pull {
-            root: path(alloc, "q")?,
-        }),
+/// How the job replicates, in words.
+const DEFAULT: &str = "most recent, resumability, resumability";
+
+fn initial_of(word: &str) -> Option<Initial> {
+    match word {
+        "most recent" => Some(Initial::MostRecent),
+        "all" => Some(Initial::All),
+        "fail" => Some(Initial::Fail),
+        _ => None,
+    }
+}
+
+fn protection_of(word: &str) -> Option<Protection> {
+    match word {
+        "resumability" => Some(Protection::Resumability),
+        "incremental" => Some(Protection::Incremental),
+        "nothing" => Some(Protection::Nothing),
+        _ => None,
+    }
+}
+
+/// What is replicated first, and the protection of the first replication and of each later one.
+fn policy_of(words: &str) -> Option<Policy> {
+    let mut words = words.split(", ");
+    Some(Policy {
+        initial: initial_of(words.next()?)?,
+        first: protection_of(words.next()?)?,
+        later: protection_of(words.next()?)?,
     })
 }
 
-fn jobs_of(alloc: Global) -> Option<JobSet> {
-    let mut jobs = Rows::new(alloc);
-    jobs.push(job_of(alloc)?).ok()?;
-    Some(JobSet { jobs })
+/// A job of this kind at one listener, that is by default in all that its ends do not say.
+fn job_of(alloc: Global, kind: JobKind, policy: Policy, filter: Filter) -> Option<Job> {
+    Some(Job {
+        kind,
+        filter,
+        when: When::Never,
+        prefix: None,
+        root: None,
+        listener: Some(job(alloc, "l")?),
+        identity: None,
+        policy,
+        steps: 1,
+        migrate: false,
+        keep_source: Rows::new(alloc),
+        keep_target: Rows::new(alloc),
+    })
+}
+
+/// A job that pulls below a root what its source has.
+fn pull_of(alloc: Global, policy: Policy) -> Option<Job> {
+    let none = Filter {
+        entries: Rows::new(alloc),
+    };
+    let mut pull = job_of(alloc, JobKind::Pull, policy, none)?;
+    pull.root = Some(path(alloc, "q")?);
+    pull.identity = Some(read_identity(alloc, b"c").ok()?);
+    Some(pull)
+}
+
+/// The source, with one dataset.
+fn source_of(alloc: Global) -> Option<Job> {
+    let mut entries = Rows::new(alloc);
+    entries.push(read_pattern(alloc, b"p/a", true).ok()?).ok()?;
+    job_of(
+        alloc,
+        JobKind::Source,
+        policy_of(DEFAULT)?,
+        Filter { entries },
+    )
+}
+
+fn jobs_of(alloc: Global, policy: &str) -> Option<JobSet> {
+    let mut jobs = Vec::new(alloc);
+    jobs.push(pull_of(alloc, policy_of(policy)?)?).ok()?;
+    jobs.push(source_of(alloc)?).ok()?;
+    let mut names = Vec::new(alloc);
+    names.push(job(alloc, "j")?).ok()?;
+    names.push(job(alloc, "s")?).ok()?;
+    if !are_jobs(names.as_slice(), jobs.as_slice()) {
+        return None;
+    }
+    check(alloc, names.as_slice(), jobs).ok()
 }
 
 /// The call of a question that is to fail.
@@ -124,7 +191,7 @@ struct Pair<'a> {
 
 impl Asked for Pair<'_> {
     fn came(&mut self, alloc: Global, ask: &str) -> Option<String> {
-        let jobs = jobs_of(alloc)?;
+        let jobs = jobs_of(alloc, DEFAULT)?;
         let mut runner = runner_of(alloc, self.pools, ask)?;
         let outcome = end_of(alloc, &jobs, "p/a", &mut runner)?;
         end_text(alloc, outcome).ok()
@@ -141,4 +208,43 @@ fn ends_of_a_replication(rt: HostRuntime) {
     for block in BLOCKS.split("\n\n") {
         is(&rt, block, came(rt.alloc(), block));
     }
+}
+
+/// Pools; then how the job replicates (first what, then the protection of the first replication and of later ones), and how
+/// the unit ends.
+const POLICIES: &str = "\
+what_is_not_replicated_as_by_default_is_conflict_20
+now 1000 txg 100 guid 100;p;p/a @a:11:1:1011;q;q/p;
+  most recent, resumability, resumability => replicated 1
+  all, resumability, resumability => conflict 20
+  fail, resumability, resumability => conflict 20
+  most recent, incremental, resumability => conflict 20
+  most recent, nothing, resumability => conflict 20
+  most recent, resumability, incremental => conflict 20
+  most recent, resumability, nothing => conflict 20";
+
+/// Pools of which each job sees a copy.
+#[derive(Clone, Copy)]
+struct Policies<'a> {
+    pools: &'a str,
+}
+
+impl Asked for Policies<'_> {
+    fn came(&mut self, alloc: Global, ask: &str) -> Option<String> {
+        let jobs = jobs_of(alloc, ask)?;
+        let mut runner = runner_of(alloc, self.pools, "well")?;
+        let outcome = end_of(alloc, &jobs, "p/a", &mut runner)?;
+        end_text(alloc, outcome).ok()
+    }
+}
+
+#[test]
+fn other_policies(rt: HostRuntime) {
+    let alloc = rt.alloc();
+    let pools = before(POLICIES);
+    is(
+        &rt,
+        POLICIES,
+        written(alloc, POLICIES, &mut Policies { pools }),
+    );
 }

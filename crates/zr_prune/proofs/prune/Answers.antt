@@ -4,7 +4,7 @@ use Rattle.zr_command.specs.declared.command.Cmd.TheVariants as cmd
 use Rattle.zr_permit.specs.declared.told.Told.TheVariants as told
 use Rattle.zr_permit.proofs.Ending.{at-work-more, begun-at-work, ended-on, turned-first, went-on}
 use Rattle.zr_prune.proofs.Alone.{prunes-alone}
-use Rattle.zr_prune.proofs.Steps.{listing-ended}
+use Rattle.zr_prune.proofs.Steps.{destroys-in-groups, listing-ended}
 use Rattle.zr_prune.proofs.prune.Goals as goal
 
 failed-undone : told.Failed ≢ told.Done
@@ -50,3 +50,6 @@ returns-clause-ended g c =
 pub returns-in-Done-clause-alone : goal.returns-in-Done-clause-alone
 returns-in-Done-clause-alone g c =
     prunes-alone _ _ c.prune_listed.result c.requires.begun (went-on _ _ _ c.list.ensures.went c.prune_listed.ensures.ended.went) c.prune_listed.ensures.pruned
+
+pub returns-in-Done-clause-groups : goal.returns-in-Done-clause-groups
+returns-in-Done-clause-groups g c = destroys-in-groups _ c.prune_listed.result c.prune_listed.ensures.pruned

@@ -1,7 +1,12 @@
-use Rattle.std.proofs.Common.{rules}
-use Rattle.zr_jobfile.proofs.Pairs.{in-root}
+use Rattle.std.proofs.Common.{◌∙◌, rules}
+use Rattle.zr_jobfile.proofs.Checked.{both-whole, paired}
 use Rattle.zr_jobfile.proofs.building.build_pair.Goals as goal
 
-pub returns-then-reaches : goal.returns-then-reaches
-returns-then-reaches c =
-    in-root c.args.push.now c.args.sink.now c.in_ok-filter.filter c.in_ok-root.root c.reaches.result (search rules) (search rules) (search rules) (search rules)
+pub checked-requires : goal.checked-requires
+checked-requires c =
+    let whole = both-whole c.args.push.now c.args.sink.now in
+    search rules
+
+pub returns : goal.returns
+returns c =
+    paired c.args.push.now c.args.sink.now c.as_slice.result.now c.in_ok-jobs.jobs.items c.checked.result (c.as_slice.ensures.value ∙ c.in_ok-names.ensures.ok) c.in_ok-jobs.ensures.ok c.in_ok-names.ensures.good c.in_ok-jobs.ensures.good c.checked.ensures

@@ -1,8 +1,8 @@
-use Rattle.std.proofs.Common.{◌≡◌, ◌∙◌, ◌<◌, List, ap, get_or, length, subst, sym}
+use Rattle.std.proofs.Common.{◌∙◌, ◌<◌, List, ap, get_or, length, subst, sym}
 use Rattle.std.specs.List.{All}
-use Rattle.zr_jobs.specs.declared.job.Job.{Job}
-use Rattle.zr_jobs.specs.Jobs.{IsPlain}
+use Rattle.zr_jobset.specs.Units.{IsPlain}
 use Rattle.zr_top.proofs.Plain.{plain-at}
+use Rattle.zr_jobset.specs.declared.job.Job.{Job}
 use Rattle.zr_top.proofs.rules.compile_all.Goals as goal
 
 pub compile_job-requires : goal.compile_job-requires

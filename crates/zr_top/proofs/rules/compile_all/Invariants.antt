@@ -1,5 +1,5 @@
 use Rattle.std.proofs.Common.{◌≡◌, map, take}
-use Rattle.zr_jobs.specs.declared.job.Job.{Job}
+use Rattle.zr_jobset.specs.declared.job.Job.{Job}
 use Rattle.zr_top.proofs.rules.compile_all.Given as goal
 
 -- the rules of the jobs so far

@@ -1,8 +1,8 @@
 use Rattle.std.proofs.Common.{◌≡◌, ◌∙◌, ℕ, None, Some, sym}
 use Rattle.zr_jobs.specs.declared.target.TargetFault.TheVariants as target_fault
 use Rattle.zr_jobs.specs.declared.pair.Pair.{Pair}
-use Rattle.zr_jobs.proofs.Pairs.{unit-pair}
-use Rattle.zr_jobs.proofs.job.JobSet.unit_pair.Goals as goal
+use Rattle.zr_jobset.proofs.Pairs.{unit-pair}
+use Rattle.zr_jobset.proofs.set.JobSet.unit_pair.Goals as goal
 
 no-pair : (pair : Pair) → None ≡ Some pair → ⊥
 no-pair pair e = cc
